@@ -1,5 +1,5 @@
--- A right answer is a certificate. Where it answers a box question, its certificate comes from the decision of the question. This gives a YES its
--- radius and its refutation. For a NO, the configuration can be read back from what the answer writes of it.
+-- A right answer is a certificate. Where it answers a box question, this follows from the decision of the question. The decision gives a YES its
+-- radius and its refutation. The configuration of a NO can be read back from what the answer writes of it.
 use Rattle.std.proofs.Common.{◌≡◌, ℕ, List, max, refl, ap, sym, subst, ◌∙◌, arith}
 use Rattle.dd_derivation.specs.{Derivations.IsRefuting, declared.step.Step.Step}
 use Rattle.dd_problem.specs.Problems.{box_problem}
@@ -35,7 +35,7 @@ discharge_is x radius margin vs ws pivots a (is_large h) = too_large
 discharge_is x radius margin vs ws pivots a (overflows h) = overflow
 discharge_is x radius margin vs ws pivots a (used_up h) = no_pivots
 
--- a configuration that lives on the torus, so that it has the torus's periods and obeys the rule, can be read back from its symbols
+-- a configuration that lives on the torus, that is, one that has the torus's periods and obeys the rule, can be read back from its symbols
 torus_same : (x : LocalRule) (along : List ℕ) (t : Tile) → IsLiving x (periods_of along 0) t → t ≡ torus_tile x along t.symbols
 torus_same x along t lives =
     let dimension : t.dimension ≡ x.dimension = lives.1.fits.dimension in

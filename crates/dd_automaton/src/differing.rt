@@ -21,7 +21,7 @@ fn value_at_origin(
     requires node { node < periodic.now.nodes }
     ensures { IfOk result (λ s. s ≡ value automaton.now (tile_look periodic.now) (origin_at node)) }
 {
-    // This call tells the proof that the automaton reads only cells with nodes of the configuration.
+    // This call tells the proof that the automaton reads only cells whose nodes the configuration has.
     automaton.reads_are_placed();
     // This call tells the proof what holds of every periodic configuration.
     let _symbols = periodic.symbols();

@@ -19,7 +19,7 @@ pub fn apply(
     match automaton {
         Automaton::Given(cases) => image_by_cases(alloc, cases, periodic),
         Automaton::Composed(outer, inner) => {
-            // This call tells the proof that the outer automaton reads only cells with nodes of the configuration.
+            // This call tells the proof that the outer automaton reads only cells whose nodes the configuration has.
             outer.get().reads_are_placed();
             let between = apply(alloc, inner.get(), periodic)?;
             apply(alloc, outer.get(), &between)
@@ -32,7 +32,7 @@ fn image_by_cases(alloc: Global, cases: &Cases, periodic: &Periodic) -> Result<P
     requires { IsDefinedOn (Automaton.Given cases.now) periodic.now }
     ensures { IfOk result (IsImage (Automaton.Given cases.now) periodic.now) }
 {
-    // This call tells the proof that the rules read only cells with nodes of the configuration.
+    // This call tells the proof that the rules read only cells whose nodes the configuration has.
     cases.reads_are_placed();
     let count = periodic.symbols().len();
     let mut symbols = Vec::with_capacity(alloc, count)?;

@@ -13,7 +13,7 @@ pub data GoalOf : Type 0 where
   -- holds at every position
   always : GoalOf
 
--- the goal holds at the position v, if the look-up gives the cells their symbols
+-- the goal holds at the position v, under the symbols that the look-up gives; a look-up gives each cell a symbol, or none
 abbrev pub HasGoal : GoalOf → Look → Place → Type 0
 HasGoal (breaks y) look v = (a : ℕ) × (a < y.nodes) × (is_true y (cell v a) look ≡ false)
 HasGoal (differ s f g) look v = (a : ℕ) × (a < s.nodes) × (value f look (cell v a) ≡ value g look (cell v a) → ⊥)

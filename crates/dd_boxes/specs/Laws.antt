@@ -9,7 +9,7 @@ use Rattle.dd_boxes.specs.Boxes.{Suffices, Reaches, IsLeastRadius, HoldsNowhere}
 pub record OneBox (x : LocalRule) (g : GoalOf) (n : ℕ) : Type 0 where
   -- `in_box` is true exactly at the positions of the box
   pub positions : (p : Place) → (in_box x.dimension n p ≡ true) ↔ IsCentred x.dimension n p
-  -- the box contains what the goal reads exactly if its radius is at least the goal's least radius
+  -- the box contains what the goal reads exactly when its radius is at least the goal's least radius
   pub radius : (least : ℕ) → IsLeastRadius g least → Reaches g n ↔ (least ≤ n)
   -- if the box contains what the goal reads, and suffices, then each larger box suffices, and the goal holds nowhere
   pub larger : IsGoalFor x g → Reaches g n → Suffices x g n → (m : ℕ) → n ≤ m → Suffices x g m

@@ -9,7 +9,7 @@ pub mod Boxes
 pub mod Cells
 -- which periods a torus may have
 pub mod TorusPeriods
--- fillings of a box and periodic configurations that have a goal at the origin
+-- fillings of a box, and periodic configurations, that have a goal at the origin
 pub mod Witnesses
 -- the law of one box: what a box that suffices says about larger boxes, and about every filling and configuration
 pub mod Laws

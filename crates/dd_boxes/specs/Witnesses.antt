@@ -1,4 +1,4 @@
--- Fillings of a box and periodic configurations that have a goal at the origin.
+-- Fillings of a box, and periodic configurations, that have a goal at the origin.
 use Rattle.std.specs.Prelude.{ℕ, ◌≡◌}
 use Rattle.dd_values.specs.Bounds.{greatest_period}
 use Rattle.dd_pattern.specs.{Reading.Look, declared.periods.Periods.Periods, Periods.AreWithin, Tile.Tile, Tile.IsTile, Tile.tile_look}
@@ -11,8 +11,7 @@ pub record IsBoxWitness (x : LocalRule) (g : GoalOf) (n : ℕ) (look : Look) : T
   pub admissible : Admissible x look
   pub goal : HasGoal g look origin
 
--- a periodic configuration of allowed symbols that lives in the rule's subshift, that is, obeys the rule at every cell, and has the goal at the
--- origin
+-- a periodic configuration of allowed symbols that lives in the rule's subshift (it obeys the rule at every cell) and has the goal at the origin
 pub record IsWitness (x : LocalRule) (g : GoalOf) (t : Tile) : Type 0 where
   pub tile : IsTile t
   pub fits : Fits x t

@@ -20,7 +20,7 @@ pub enum Reason {
     Limits,
     /// The linear program of a discharging query, or the list of fillings that it is made from, is too large.
     Large,
-    /// A number became too large, in the run of the simplex method on the linear program or in its result.
+    /// A number became too large, in a step of the simplex method or in its result.
     Overflow,
     /// The simplex method has not ended after as many pivots as the script allows.
     Pivots,
@@ -119,7 +119,7 @@ pub enum Answer {
         /// greater bound.
         duals: Items<u64>,
     },
-    /// The minimal forbidden patterns of the rule. No further cell can be left out of any of them.
+    /// Minimal patterns that together forbid exactly what the rule forbids. No further cell can be left out of any of them.
     Minimal {
         patterns: Items<Starred>,
     },
@@ -144,12 +144,12 @@ pub enum Answer {
         weight: u64,
         /// The symbols of a fundamental box of this weight, in cell order.
         symbols: Items<u64>,
-        /// Steps that refute that some such fundamental box weighs less. If the weight is 0, there are none.
+        /// Steps that refute the claim that some such fundamental box weighs less. If the weight is 0, there are none.
         steps: Items<Step>,
     },
     /// No configuration of the subshift has the query's periods.
     Nothing {
-        /// Steps that refute that there is such a configuration.
+        /// Steps that refute the claim that there is such a configuration.
         steps: Items<Step>,
     },
 }

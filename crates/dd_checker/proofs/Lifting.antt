@@ -18,7 +18,7 @@ use Rattle.dd_certificate.specs.declared.answer.Answer.{Answer}
 use Rattle.dd_question.specs.Questions.{Asked}
 use Rattle.dd_verify.specs.{Holding.says_nowhere, Holding.says_equal, Certificates.ClaimOf}
 use Rattle.dd_checker.specs.Claims.{ClaimFor, Claim}
-use Rattle.dd_checker.specs.Lifted.{is_yes, whole_look, IsWhole, IsNotAt, IsAskedNotAt, of_box, of_equality, IsNowhereAt}
+use Rattle.dd_checker.specs.Lifted.{is_yes, whole_look, IsWhole, IsNotAt, IsAskedNotAt, of_box, of_equality, IsQueryNotAt}
 use Rattle.dd_certificate.specs.declared.answer.Answer.TheVariants as answer
 use Rattle.dd_question.specs.Questions as question
 
@@ -76,7 +76,7 @@ module _ (s : Parts) (nodes : ℕ) (symbol_of : Cell → ℕ) (whole : IsWhole s
     asked_not_at _ _ _ ok claim = elim claim [ ]
 
     -- if what a YES claims is true, the goal does not hold at v
-    pub lifted_law : AreSound s → (number : ℕ) (a : Answer) → is_yes a ≡ true → Claim s number a → IsNowhereAt s number look v
+    pub lifted_law : AreSound s → (number : ℕ) (a : Answer) → is_yes a ≡ true → Claim s number a → IsQueryNotAt s number look v
     lifted_law sound number a told h =
         some_then (query_at s number) (λ q. ClaimFor s q a) (λ q. IsSomeAnd (asked s q) (λ k. IsAskedNotAt k look v))
         (λ q is claim.

@@ -10,9 +10,11 @@ use dd_script::Script;
 use dd_verify::check_question;
 use std::alloc::{AllocError, Global};
 
-/// The verdict on an answer: whether it is a certificate for the query with the number `query`, from 1, and an output can hold
-/// it. What an accepted answer claims is true. A claim may be about all positions of Z^d, all configurations, and all admissible
-/// fillings, whatever cells they fill.
+/// The verdict on an answer to the query with the number `query`, counted from 1. The answer is accepted exactly when an output
+/// can hold it and it is a certificate for this query. What an accepted answer claims is true. A claim may be about all
+/// positions of Z^d, all configurations, and all admissible fillings, whatever cells they fill. (A filling gives an allowed
+/// symbol to each cell of a set. It is admissible for a rule if the rule is true at each of these cells where all that the rule
+/// reads has a symbol.)
 ///
 /// # Errors
 /// `AllocError` if memory ran out.

@@ -4,7 +4,7 @@ ghost use Rattle.dd_expansion.specs.Placed.{is_flat};
 ghost use Rattle.dd_certificate.specs.declared.answer.Answer.{Answer as AnyAnswer};
 ghost use Rattle.dd_checker.specs.Certificates.{IsCertificateFor, IsCertificate};
 ghost use Rattle.dd_checker.specs.Claims.{ClaimFor, Claim};
-ghost use Rattle.dd_checker.specs.Lifted.{is_yes, whole_look, IsWhole, IsNowhereAt};
+ghost use Rattle.dd_checker.specs.Lifted.{is_yes, whole_look, IsWhole, IsQueryNotAt};
 ghost use Rattle.dd_checker.specs.Inverses.{is_conjugate, IsConjugacyAt, AreInverseIn};
 
 use dd_certificate::Answer;
@@ -34,7 +34,8 @@ pub(crate) fn query_certified(script: &Script, query: &Query)
 }
 
 /// Changes nothing. Its contract says that what a certificate for a query of the script claims is true. The claim of a bound
-/// covers boxes of every side at every position: each weighs at least what the bound says, less what it may receive from outside.
+/// covers boxes of every side length at every position: a box weighs at least the number of its positions times the bound, less
+/// what it may receive from outside.
 pub fn certified(script: &Script)
     ensures { (number : ℕ) (answer : AnyAnswer) → IsCertificate script.now number answer → Claim script.now number answer }
 {
@@ -45,9 +46,9 @@ pub fn certified(script: &Script)
 }
 
 /// Changes nothing and allocates nothing. Its contract says what a YES means for any configuration, even one that is a function on
-/// all cells of Z^d. The YES must be a certificate for the query with the number `_query`, from 1. This query asks one box
-/// question, or two if it asks for an equality. If the configuration obeys the premise of one of these questions at every position
-/// of Z^d, the goal of this question doesn't hold at `_place`.
+/// all cells of Z^d. The YES must be a certificate for the query with the number `_query`, counted from 1. This query asks one
+/// box question, or two if it is about equality. If the configuration obeys the premise of one of these questions at every
+/// position of Z^d, the goal of this question doesn't hold at `_place`.
 pub fn lifted<C: Configuration>(
     script: &Script,
     _query: u32,
@@ -59,7 +60,7 @@ pub fn lifted<C: Configuration>(
     requires yes { is_yes _answer.now ≡ true }
     requires whole { IsWhole script.now (C.nodes _configuration.now) (C.symbol_of _configuration.now) }
     requires flat { is_flat script.now.known.setting.topology.dimension _place.now ≡ true }
-    ensures { IsNowhereAt script.now _query
+    ensures { IsQueryNotAt script.now _query
         (whole_look script.now.known.setting.topology.dimension (C.nodes _configuration.now) (C.symbol_of _configuration.now)) _place.now }
 {
     script.sound_questions();
@@ -67,8 +68,8 @@ pub fn lifted<C: Configuration>(
 }
 
 /// Changes nothing and allocates nothing. Its contract says what a CONJUGATE means for any configuration, even one that is a
-/// function on all cells of Z^d. The CONJUGATE must be a certificate for the query with the number `_query`, from 1. If the
-/// configuration obeys the first rule at every position of Z^d, then at each node of `_place`:
+/// function on all cells of Z^d. The CONJUGATE must be a certificate for the query with the number `_query`, counted from 1. If
+/// the configuration obeys the first rule at every position of Z^d, then at each node of `_place`:
 /// - its image under the first automaton has an allowed symbol and obeys the second rule;
 /// - the second automaton takes the image back to the configuration's symbol.
 ///

@@ -19,7 +19,7 @@ pub struct Signal {
 }
 
 impl Signal {
-    /// The signal that is true exactly if this one is false.
+    /// The signal that is true exactly when this one is false.
     pub fn opposite(self) -> Signal
         ensures { result ≡ opposite self }
     {

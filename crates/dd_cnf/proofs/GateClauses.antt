@@ -1,4 +1,4 @@
--- The clauses of several gates, and of one more gate.
+-- How the clauses of several gates grow when one more gate is added.
 use Rattle.std.proofs.Common.{◌≡◌, ℕ, suc, ◌+◌, ◌<◌, ◌≤◌, Bool, List, [], ◌∷◌, ◌++◌, map, length, ap, sym, ◌∙◌, arith, get_or, take, drop, length-drop, append_assoc}
 use Rattle.std.proofs.lemmas.List.{append-nil, take_more, take_rest, length-take-le}
 use Rattle.std.proofs.lemmas.List.Elements.{All-cons, All-map, All-take}

@@ -9,15 +9,15 @@ use Rattle.dd_circuit.specs.Circuits.{Network, size}
 abbrev pub literal : ℕ → Bool → Literal
 literal variable positive = record { variable = variable; positive = positive }
 
--- the literal that is true exactly if the signal is
+-- the literal that is true exactly when the signal is
 abbrev pub literal_of : Signal → Literal
 literal_of s = literal s.variable s.positive
 
--- the literal that is true exactly if the signal is false
+-- the literal that is true exactly when the signal is false
 abbrev pub opposing : Signal → Literal
 opposing s = negation (literal_of s)
 
--- the clauses that say that g is true exactly if a and b have the same value
+-- the clauses that say that g is true exactly when a and b have the same value
 abbrev pub iff_clauses : Literal → Literal → Literal → List (List Literal)
 iff_clauses g a b =
     (negation g ∷ negation a ∷ b ∷ [])

@@ -1,4 +1,4 @@
-//! The clauses of a gate are satisfied exactly if the gate's variable has the gate's value. So the clauses of all gates
+//! The clauses of a gate are satisfied exactly when the gate's variable has the gate's value. So the clauses of all gates
 //! leave the inputs free, and fix every other variable.
 ghost use Rattle.std.specs.Prelude.{◌≡◌, ◌+◌, ◌≤◌, ◌∷◌, ◌++◌, [], drop, length, All, IfOk, OnOk, OnErr};
 ghost use Rattle.dd_clause.specs.Clauses.{IsLiteralInRange, IsClauseInRange};
@@ -10,7 +10,7 @@ use dd_circuit::{Circuit, Gate, Signal};
 use dd_clause::{Clause, Cnf, Literal};
 use std::alloc::{AllocError, Global};
 
-/// The literal that is true exactly if the signal is.
+/// The literal that is true exactly when the signal is.
 pub fn literal_of(signal: Signal) -> Literal
     ensures { result ≡ spec.literal_of signal }
 {
@@ -45,8 +45,8 @@ pub fn push_clause(alloc: Global, cnf: &mut Cnf, literals: &[Literal]) -> Result
 }
 
 /// Adds the clauses of an `And` gate or an `Or` gate. The literal `gate` has the gate's variable, and is positive for `And` and
-/// negative for `Or`. For `And` the clauses say that `gate` is true exactly if all members are true. For `Or` they say that
-/// `gate` is true exactly if all members are false, so that the gate's variable is true exactly if some member is true.
+/// negative for `Or`. For `And` the clauses say that `gate` is true exactly when all members are true. For `Or` they say that
+/// `gate` is true exactly when all members are false, so that the gate's variable is true exactly when some member is true.
 fn push_and_or(
     alloc: Global,
     cnf: &mut Cnf,
@@ -73,7 +73,7 @@ fn push_and_or(
     push_clause(alloc, cnf, &last)
 }
 
-/// Adds the clauses of an `Iff` gate. They say that the literal `gate` is true exactly if `a` and `b` have the same value.
+/// Adds the clauses of an `Iff` gate. They say that the literal `gate` is true exactly when `a` and `b` have the same value.
 fn push_iff(
     alloc: Global,
     cnf: &mut Cnf,

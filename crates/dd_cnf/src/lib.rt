@@ -1,4 +1,4 @@
-//! Circuits as clauses. An assignment satisfies the clauses of a circuit exactly if it gives each gate's variable the value
+//! Circuits as clauses. An assignment satisfies the clauses of a circuit exactly when it gives each gate's variable the value
 //! of the gate.
 #![tactic(auto)]
 

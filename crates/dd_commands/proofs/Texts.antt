@@ -15,7 +15,7 @@ all_written bytes from (p ∷ ps) (w ∷ ws) each =
     (All-cons (IsWritten bytes) w ws (record { is = subst (IsCommand bytes w.command) (sym each.0.tokens) each.0.is }) more.0, and_from _ _ each.0.whole more.1)
 all_written bytes from ps ws each = absurd search
 
--- the tokens, with a stray one at the end unless `ends`
+-- the tokens, with a stray one at the end unless `ends` is true
 abbrev with_end : Bool → List Lexeme → List Lexeme
 with_end ends tokens = tokens ++ (if ends then [] else Lexeme.Stray ∷ [])
 

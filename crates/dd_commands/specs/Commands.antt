@@ -60,7 +60,7 @@ pub record AreCases (bytes : List ℕ) (cases : List Case) (default : Name) (tok
 abbrev pub IsOnePlain : List Vector → Type 0
 IsOnePlain vs = (v : Vector) × (vs ≡ v ∷ []) × (is_plain v ≡ true)
 
--- a query may end with these vectors, if its kind's row has this entry for them
+-- a query may end with these vectors if the row of its kind has this value of `lists`
 abbrev pub AreLists : Lists → List Vector → Type 0
 AreLists Lists.None vs = vs ≡ []
 AreLists Lists.Strip vs = IsOnePlain vs

@@ -7,7 +7,7 @@ pub record HeadRow : Type 0 where
   pub word : List ℕ
   -- no command may follow one of a higher stage
   pub stage : ℕ
-  -- a script may have this command only once
+  -- whether a script may have this command only once
   pub once : Bool
 
 abbrev pub entry : List ℕ → ℕ → Bool → HeadRow

@@ -38,7 +38,7 @@ abbrev pub parts : List Lexeme → List Lexeme × List (List Lexeme)
 parts [] = ([], [])
 parts (t ∷ tokens) = if is_percent t then ([], (parts tokens).0 ∷ (parts tokens).1) else (t ∷ (parts tokens).0, (parts tokens).1)
 
--- whether a token is not stray
+-- whether a token is not stray; a stray token stands for bytes that aren't allowed
 abbrev pub is_whole : Lexeme → Bool
 is_whole (Lexeme.Word w) = true
 is_whole (Lexeme.Number n) = true
@@ -69,7 +69,7 @@ AreCommands bytes from (p ∷ ps) [] = ⊥
 AreCommands bytes from (p ∷ ps) (w ∷ ws) = MayStand bytes from p w × AreCommands bytes (stage_after w) ps ws
 
 -- This is the index, from 0, of the first bad part. A part is bad if it is not a command, if it has a stray token, or if its
--- command has a stage below the lowest that may come there.
+-- command has a stage below the lowest that is allowed there. The command of a bad part is not well formed.
 abbrev pub IsFirstBad : List ℕ → ℕ → List (List Lexeme) → ℕ → Type 0
 IsFirstBad bytes from [] place = ⊥
 IsFirstBad bytes from (p ∷ ps) zero = (w : Written) → MayStand bytes from p w → ⊥

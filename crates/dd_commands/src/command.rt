@@ -78,7 +78,7 @@ pub enum Command {
     Weights {
         weights: Items<Number>,
     },
-    /// `limits radius period pivots`: how far searches go, and how many pivots a linear program may take.
+    /// `limits radius period pivots`: how far searches go, and how many pivots of the simplex method a discharge may take.
     Limits {
         radius: Number,
         period: Number,

@@ -9,6 +9,7 @@ use thiserror::Error;
 #[derive(Clone, Copy, Debug, PartialEq, Eq, Error)]
 pub enum SyntaxFault {
     /// The number, from 1, of the first command that is not well formed. It is 0 if some token stands before the first `%`.
+    /// A command that may not come where it stands counts as not well formed.
     #[error("command {command} is not well formed")]
     At { command: u32 },
     /// Memory ran out.

@@ -1,4 +1,4 @@
-//! Reads queries, each as the row of its kind in the table of queries says.
+//! Reads queries. The row of a query's kind, in the table of queries, says what follows its first word.
 ghost use Rattle.std.specs.Prelude.{◌≡◌};
 ghost use Rattle.dd_written.specs.reading.Readers.{Gives};
 ghost use Rattle.dd_commands.specs.declared.head.Head.TheVariants as head;

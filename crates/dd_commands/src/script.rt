@@ -128,7 +128,7 @@ fn commands(alloc: Global, bytes: &[u8], tokens: &[Lexeme]) -> Result<Items<Writ
     Ok(commands)
 }
 
-/// The syntax tree of a script of at most `MOST_SCRIPT` bytes, or the number of the first command that is not well formed.
+/// The syntax tree of a script of at most `MOST_SCRIPT` bytes, or why it has none.
 #[tactic(auto, using(crate::proofs::Texts::ascii_text))]
 pub fn read(alloc: Global, bytes: &[u8]) -> Result<Syntax, SyntaxFault>
     requires { length bytes.now ≤ most_script }

@@ -1,4 +1,5 @@
-//! The table of queries, with a row for each kind. Queries are read, checked and resolved by these rows alone.
+//! The table of queries, with a row for each kind. Queries are read and checked by these rows alone, and their words are
+//! resolved by them.
 ghost use Rattle.std.specs.Prelude.{◌≡◌};
 ghost use Rattle.dd_commands.specs.Table.{row};
 
@@ -54,7 +55,8 @@ pub enum QueryKind {
     Density,
     /// `least X [3 3]`: what is the least weight of a configuration that obeys the rule and has these periods?
     Least,
-    /// `discharge X r m [1 0] ..`: what is the best bound by discharging, with radius r, margin m and these vectors?
+    /// `discharge X r m [1 0] ..`: what is the best lower bound for the density by discharging, with radius r, margin m and
+    /// these vectors?
     Discharge,
 }
 

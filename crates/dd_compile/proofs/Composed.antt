@@ -28,7 +28,7 @@ use Rattle.dd_compile.specs.lemmas.{Progress.size-append, CaseRules.agrees_befor
 use Rattle.dd_compile.proofs.Composing.{there_of}
 use Rattle.dd_formula.specs.declared.automaton.Automaton.TheVariants as v
 
--- if signals say what value the cases give, they also say what the value of the automaton is that is given by these cases
+-- if signals say what value the cases give, they also say the value of the automaton that is given by these cases
 pub cases_say : (new : Network) (w : Wiring) (k : ℕ) (f : Automaton) (c : Cases) (at : Cell) (ss : List Signal) → f ≡ v.Given c → SaysCases new w k c at ss → SaysValue new w k f at ss
 cases_say new w k f c at ss is h =
     let here : SaysValue new w k (v.Given c) at ss = record {
@@ -161,7 +161,7 @@ module _ (k : ℕ) (f g : Automaton) (w : Wiring) (at : Cell) (start one : Netwo
         subst (SaysWhich set ss) (sym (value_composed f g look at)) (h.says set given ok given_below outer);
   }
 
--- the inner values at the cells that the outer automaton reads, which are made first
+-- what is made first: the inner values at the cells that the outer automaton reads
 abbrev first : ℕ → Automaton → Wiring → Cell → List Cell → ℕ → WiredMade
 first k g w at cs n = inner_made (value_made k g) w unwired (there_of at cs) n
 

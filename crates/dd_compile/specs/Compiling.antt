@@ -68,7 +68,7 @@ gate_count = fold-Expanded ℕ gate_count_step
 abbrev pub all_counts : List Expanded → ℕ
 all_counts es = total (map gate_count es)
 
--- for each cell and symbol its wire, the signal that says that the cell has the symbol, or `None` if there is none
+-- for each cell and symbol, their wire (the signal that says that the cell has the symbol), or `None` if there is none
 abbrev pub Wires : Type 0
 Wires = Cell → ℕ → Option Signal
 

@@ -24,7 +24,7 @@ abbrev pub choices : List Signal → List Signal → List Gate
 choices before [] = And (map opposite before) ∷ []
 choices before (l ∷ ls) = And (l ∷ map opposite before) ∷ choices (before ++ l ∷ []) ls
 
--- the symbol that each choice gives: the symbols of the cases, and then the one for the last choice
+-- the symbol that each choice gives: the symbols of the cases, and then `otherwise` for the last choice
 abbrev pub given_symbols : List (LocalRule × ℕ) → ℕ → List ℕ
 given_symbols cases otherwise = map (λ case. case.1) cases ++ otherwise ∷ []
 

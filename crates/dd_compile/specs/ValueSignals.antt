@@ -29,8 +29,8 @@ pub record HasSymbols (f : Automaton) (k a : ℕ) : Type 0 where
 abbrev pub are_wired_there : ℕ → ℕ → Wiring → List Cell → Cell → Bool
 are_wired_there n k w ds c = list_all (λ d. are_signals n k (signals_of w (shifted c.position d))) ds
 
--- under the assignment, for each of these cells, which are relative to c, and each symbol, the cell's signal for the symbol says whether `look` gives
--- the cell that symbol
+-- the assignment tells the symbols of these cells, which are relative to c: for each of the cells and each symbol, the cell's signal for the symbol
+-- says whether `look` gives the cell that symbol
 abbrev pub TellsCells : (ℕ → Bool) → Wiring → List Cell → Cell → Look → Type 0
 TellsCells set w ds c look =
     (d : Cell) (s : ℕ) (x : Signal) → Contains ds d → wire_of w (shifted c.position d) s ≡ Some x → signal_value set x ≡ is_symbol s (look (shifted c.position d))
@@ -42,8 +42,8 @@ pub record AreCasesWired (n : ℕ) (w : Wiring) (c : Cases) (at : Cell) : Type 0
   pub below : at.node < setting.nodes
   pub wired : are_wired_there n setting.symbols w (cases_reads c.cases at.node) at ≡ true
 
--- Under every assignment that gives the circuit's gates their values, and whose inputs tell the symbols that the cases read at the cell `at`, the
--- signals say whether the rules of the cases in the list `some` are true there.
+-- Under every assignment that gives the circuit's gates their values and tells the symbols that the cases read at the cell `at`, the signals say
+-- whether the rules of the cases in the list `some` are true there.
 abbrev pub CasesSay : Network → Wiring → Cases → Cell → List (LocalRule × ℕ) → List Signal → Type 0
 CasesSay circuit w c at some signals =
     (s : CommonNumbers) (set : ℕ → Bool) (look : Look) → cases_fit s c.cases c.otherwise ≡ true → agrees set circuit.inputs circuit.gates ≡ true → HasSymbolsBelow s.symbols look →
@@ -59,8 +59,8 @@ pub record SaysCases (circuit : Network) (w : Wiring) (k : ℕ) (cases : Cases) 
   pub says : (set : ℕ → Bool) (look : Look) → agrees set circuit.inputs circuit.gates ≡ true → HasSymbolsBelow k look → TellsCells set w (cases_reads cases.cases c.node) c look →
       SaysWhich set signals (first_case cases.cases cases.otherwise look c)
 
--- Each of k symbols has a signal. Under every assignment that gives the circuit's gates their values, and whose inputs tell the symbols that the
--- automaton reads at c, each symbol's signal says whether that symbol is the automaton's value at c.
+-- Each of k symbols has a signal. Under every assignment that gives the circuit's gates their values and tells the symbols that the automaton reads
+-- at c, each symbol's signal says whether that symbol is the automaton's value at c.
 pub record SaysValue (circuit : Network) (w : Wiring) (k : ℕ) (f : Automaton) (c : Cell) (signals : List Signal) : Type 0 where
   pub one_each : length signals ≡ k
   pub says : (set : ℕ → Bool) (look : Look) → agrees set circuit.inputs circuit.gates ≡ true → HasSymbolsBelow k look → TellsCells set w ((counted f).reads c.node) c look →

@@ -10,8 +10,8 @@ use Rattle.dd_compile.specs.{Wiring.Wiring, Compiling.AllMade, ValueGates.value_
 use Rattle.dd_compile.specs.ValueSignals.{TellsCells, SaysWhich, are_wired_there}
 
 -- These gates, which come after n variables, are over earlier variables, and there is a signal for each of k symbols. Under every assignment that
--- gives the gates their values, and whose inputs tell the symbols that the automaton reads at the cell `at`, each signal says whether its symbol is
--- the value there.
+-- gives the gates their values and tells the symbols that the automaton reads at the cell `at`, each signal says whether its symbol is the value
+-- there.
 pub record IsMadeValue (n k : ℕ) (f : Automaton) (w : Wiring) (at : Cell) (m : AllMade) : Type 0 where
   pub gates : AreGates n m.gates
   pub one_each : length m.signals ≡ k

@@ -54,8 +54,8 @@ pub fn compile_value(
     compile_near(circuit, alloc, automaton, symbols, at, inputs)
 }
 
-/// Does nothing. Its contract is a law: at each cell, the automaton's value has at most as many gates as `value_clauses` counts
-/// clauses for the cell's node.
+/// Does nothing. Its contract is a law: the number of the gates of the automaton's value at a cell is at most the number of
+/// clauses that `value_clauses` counts for the cell's node.
 pub fn value_gates(_automaton: &Automaton, _symbols: u32)
     ensures { (w : Wiring) (at : Cell) (n : ℕ) →
         length (value_made _symbols _automaton.now w at n).gates ≤ value_clauses _symbols _automaton.now at.node }

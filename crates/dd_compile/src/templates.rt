@@ -27,7 +27,8 @@ use std::marker::Model;
 
 /// The gates of a rule at one of its nodes, to be placed at that node of any position. The template has a circuit of its own
 /// for them. This circuit has an input for each symbol of each cell that the rule reads at that node of the origin. These cells
-/// are numbered from 0 in cell order: symbol `s` of cell `k` has the variable `1 + k * symbols + s`.
+/// are numbered from 0 in cell order: symbol `s` of cell `k` has the variable `1 + k * symbols + s`, where `symbols` is the
+/// size of the alphabet.
 #[derive(Debug, Drop)]
 pub struct Template<'a> {
     rule: &'a Rule,

@@ -1,8 +1,9 @@
 //! The gates of the value, at a cell, of an automaton that is given by cases. A case has a rule and a symbol. The value is the
 //! symbol of the first case whose rule is true, or the symbol `otherwise` if no rule is true. The gates are added in three
-//! steps. First come the gates of the cases' rules. Then comes a gate for each choice. There is a choice for each case, which
-//! is true if this case is the first whose rule is true. One more choice, the last, is true if no rule is true. So exactly one
-//! choice is true. Last comes a gate for each symbol, which says that some choice that gives this symbol is true.
+//! steps. First come the gates of the cases' rules. Then comes a gate for each choice. Each case has a choice, which gives the
+//! case's symbol. It is true if the case is the first whose rule is true. One more choice, the last, gives the symbol
+//! `otherwise`. It is true if no rule is true. So exactly one choice is true. Last comes a gate for each symbol, which says
+//! that some choice that gives this symbol is true.
 ghost use Rattle.std.specs.Prelude.{◌≡◌, ◌≤◌, ◌+◌, ◌-◌, ◌++◌, [], true, All, IfOk, length};
 ghost use Rattle.dd_lattice.specs.Place.{most_coordinate};
 ghost use Rattle.dd_values.specs.Bounds.{most_variables};
@@ -98,7 +99,7 @@ fn choose(circuit: &mut Circuit, alloc: Global, rules: &[Signal]) -> Result<Vec<
     Ok(chosen)
 }
 
-/// The symbol that each choice gives: the symbols of the cases, and then the one for the last choice.
+/// The symbol that each choice gives: the symbols of the cases, and then `otherwise` for the last choice.
 fn given_symbols(alloc: Global, cases: &Cases) -> Result<Vec<u32>, AllocError>
     ensures { IfOk result (λ v. v.items ≡ given_symbols cases.now.cases cases.now.otherwise) }
 {

@@ -22,7 +22,7 @@ pub record IsFirst (T : Periods → Type 0) (d n : ℕ) (p : Periods) : Type 0 w
   pub shows : T p
   pub first : (q : Periods) → AreWithin d n q → IsBefore q p → T q → ⊥
 
--- no periods in d dimensions that are at most n along each axis satisfy T, with any shear
+-- no periods in d dimensions that are at most n along each axis, with any shear, satisfy T
 abbrev pub NoneWithin : (Periods → Type 0) → ℕ → ℕ → Type 0
 NoneWithin T d n = (q : Periods) → AreWithin d n q → T q → ⊥
 

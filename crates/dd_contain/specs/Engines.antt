@@ -6,5 +6,5 @@ use Rattle.dd_engines.specs.Rounds.{Seen, Kept, FirstAsked}
 pub record AreAsked {T E : Type 0} (before after : List Seen) (result : Result T E) : Type 0 where
   -- Each sound engine is still there, in order, and no count of questions or proposals has fallen.
   pub kept : Kept before after
-  -- On success, if any engine is left, the first of them was asked. All engines that stood ahead of it were dropped, and none of these was sound.
+  -- On success, if engines are left, the first of them was asked. All engines that stood ahead of it were dropped, and none of these was sound.
   pub first : OnOk result (FirstAsked before after)

@@ -1,4 +1,4 @@
--- Decisions: the least radius that suffices, or the first periods that show the goal. A radius suffices if no admissible filling of its box has the
+-- Decisions: the least radius tried that suffices, or the first periods that show the goal. A radius suffices if no admissible filling of its box has the
 -- goal at the origin. Periods show the goal if some configuration of these periods lives in the premise's subshift (obeys the premise at every
 -- cell) and has the goal at the origin.
 pub mod Decided

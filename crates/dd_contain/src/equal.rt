@@ -28,8 +28,8 @@ pub enum Half {
 /// The answer to the question whether two rules allow the same configurations.
 #[derive(Debug, Drop)]
 pub enum Equality {
-    /// No configuration of either rule breaks the other. Each of `left` and `right` has the least radius that suffices for its
-    /// question.
+    /// No configuration of either rule breaks the other. Each of `left` and `right` has the least radius tried that suffices
+    /// for its question.
     Yes { left: Enough, right: Enough },
     /// A configuration of this side's rule that breaks the other rule.
     No { side: Half, periodic: Periodic },

@@ -138,7 +138,7 @@ impl<'a> Questions for BoxQuestion<'a> {
 
 /// Decides a box question. The first box that is tried is the smallest one that holds all that the goal reads at the origin. The
 /// radius of further boxes is at most the limit. Periods are at most their limit. The answer is:
-/// - YES, with the least radius that suffices;
+/// - YES, with the least of these radii that suffices;
 /// - otherwise NO, with a configuration that obeys the premise and has the goal at the origin. Its periods and shear come first
 ///   among those of all such configurations, ordered by volume and then lexicographically;
 /// - otherwise unknown.
@@ -147,7 +147,7 @@ impl<'a> Questions for BoxQuestion<'a> {
 /// So engines change only the time, which steps are shown, and which configuration of the first periods is shown. An engine
 /// that takes too much memory may prevent a decision.
 ///
-/// Each sound engine stays in the roster, in order. On success, if any engine is left, the first of them was asked. All engines
+/// Each sound engine stays in the roster, in order. On success, if engines are left, the first of them was asked. All engines
 /// that stood ahead of it were dropped, and none of these was sound.
 ///
 /// # Errors

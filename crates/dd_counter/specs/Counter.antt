@@ -1,5 +1,5 @@
--- The counter: gates that say how much the first cells weigh. Each cell has a row of signals. The signal at t, counted from 0, says that the cells up
--- to and including this one weigh more than t. `ws` lists the weights of the symbols.
+-- The counter: gates that say how much the first cells weigh. Each cell has a row of signals. The signal with the index t, counted from 0, says that
+-- the cells up to and including this one weigh more than t. `ws` lists the weights of the symbols.
 use Rattle.std.specs.Prelude.{ℕ, zero, suc, ◌+◌, ◌-◌, Bool, true, false, nat_lt, List, [], ◌∷◌, ◌++◌, map, length, Option, Some, None, slice_get, slice_index}
 use Rattle.std.specs.List.{range_with_len}
 use Rattle.dd_clause.specs.{declared.clause.Literal.Literal, Clauses.ClauseList}
@@ -24,9 +24,9 @@ joined (m ∷ ms) n =
     let rest = joined ms (n + length (m n).gates) in
     making ((m n).signals ++ rest.signals) ((m n).gates ++ rest.gates)
 
--- The member for a symbol of a cell. Its signal says that the cell has the symbol, and that the cells up to and including this
--- one weigh more than t. There are three cases. The symbol weighs enough by itself. Or the signal r says that it weighs enough
--- together with the cells before. Or there is no such signal r, and then the member has no signal either.
+-- The member for a symbol of a cell, one of those that `count` combines with an Or gate. Its signal says that the cell has the symbol, and that the
+-- cells up to and including this one weigh more than t. There are three cases. In the first, the symbol weighs enough by itself. In the second, the
+-- signal r says that it weighs enough together with the cells before. In the third, there is no such signal r, and the member has no signal either.
 abbrev pub member_by : Signal → Bool → Option Signal → Making
 member_by input true earlier n = making (input ∷ []) []
 member_by input false (Some r) n = making (signal_of (suc n) ∷ []) (And (input ∷ r ∷ []) ∷ [])

@@ -15,13 +15,13 @@ last_row x p ws below = (rows ws below (periods_volume p * x.nodes) 0 [] (torus_
 
 -- the laws of the least weight
 pub record SaysWeights (x : LocalRule) (p : Periods) (ws : List ℕ) : Type 0 where
-  -- if the clauses without a bound are refuted, no configuration lives
+  -- if the clauses without a bound are refuted, there is no living configuration
   pub none : (steps : List Step) → IsRefuting (weight_problem x p ws 0) steps → NoneOn x p
-  -- the weight w of a configuration that lives is the least weight, if w is 0 or the clauses that ask for less than w are refuted
+  -- the weight w of a living configuration is the least weight, if w is 0 or the clauses that ask for less than w are refuted
   pub least : (w : ℕ) (t : Tile) (steps : List Step) → IsLiving x p t → total_weight ws t.symbols ≡ w → (0 < w → IsRefuting (weight_problem x p ws w) steps) → LeastOn x p ws w
   -- there is at most one least weight
   pub unique : (v w : ℕ) → LeastOn x p ws v → LeastOn x p ws w → v ≡ w
-  -- there is no least weight if no configuration lives
+  -- there is no least weight if there is no living configuration
   pub either : (w : ℕ) → NoneOn x p → LeastOn x p ws w → ⊥
   -- if the bound is at least 1, the last clause says that the last signal of the last row is false
   pub last : (below : ℕ) → 0 < below → let signals = last_row x p ws below in

@@ -18,11 +18,11 @@ pub record LeastOn (x : LocalRule) (p : Periods) (ws : List ℕ) (w : ℕ) : Typ
   pub some : (t : Tile) × IsLiving x p t × (total_weight ws t.symbols ≡ w)
   pub least : (t : Tile) → IsLiving x p t → w ≤ total_weight ws t.symbols
 
--- no configuration lives
+-- there is no living configuration
 abbrev pub NoneOn : LocalRule → Periods → Type 0
 NoneOn x p = (t : Tile) → IsLiving x p t → ⊥
 
--- the steps refute the clauses that ask for less than w, and the numbers of clauses and steps are in range
+-- the steps refute the clauses that ask for less than w (for any weight if w is 0), and the numbers of clauses and steps are in range
 pub record IsRefutedBelow (x : LocalRule) (p : Periods) (ws : List ℕ) (w : ℕ) (steps : List Step) : Type 0 where
   pub refuting : IsRefuting (weight_problem x p ws w) steps
   pub numbered : AreNumbered (weight_problem x p ws w) steps

@@ -1,6 +1,6 @@
 -- the gates that say how much the first cells weigh
 pub mod Counter
--- the clauses that ask for a configuration whose weight is below a bound, and when clauses do so
+-- the clauses that ask for a configuration whose weight is below a bound, and what it means that clauses do so
 pub mod Weights
 -- the least weight of the configurations of given periods that live in a rule's subshift (obey the rule at every cell), and
 -- when there is no such configuration

@@ -1,6 +1,6 @@
 //! The counter: gates that say how much the first cells weigh. Each cell has a row of signals, which are the outputs of gates
-//! over the row of the cell before. The signal at `most`, counted from 0, says that the cells up to and including this one weigh
-//! more than `most`.
+//! over the cell's symbol and the row of the cell before. The signal with the index `most`, counted from 0, says that the cells
+//! up to and including this one weigh more than `most`.
 ghost use Rattle.std.specs.Prelude.{◌≡◌, ◌≤◌, ◌<◌, ◌+◌, ◌*◌, ◌++◌, ◌∷◌, [], suc, length, All, IfOk, OnOk};
 ghost use Rattle.dd_values.specs.Bounds.{most_variables};
 ghost use Rattle.dd_circuit.specs.Circuits.{IsSignal, IsGate, signal_of};

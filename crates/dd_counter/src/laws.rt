@@ -1,4 +1,4 @@
-//! What a refutation of the clauses says about the weights of configurations, as the contract of a call that does nothing.
+//! What a refutation of the clauses says about the weights of configurations, as the contract of a function that does nothing.
 ghost use Rattle.std.specs.Prelude.{◌≡◌, ℕ, List, length};
 ghost use Rattle.dd_pattern.specs.declared.periods.Periods.{Periods as AnyPeriods};
 ghost use Rattle.dd_boxes.specs.TorusPeriods.{AreTorusPeriods};

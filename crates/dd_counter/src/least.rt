@@ -1,6 +1,7 @@
-//! The search for a configuration of least weight on a torus. A local search makes the first configuration lighter. Then, after
-//! each configuration that is found, a lighter one is searched for, until a refutation shows that there is none. While the weight
-//! may still be far above the least one, the search asks for much lighter configurations, so that few searches are needed.
+//! The search for a configuration of least weight on a torus. The first search asks for any living configuration, and a local
+//! search makes it lighter. After each configuration that is found, the next search asks for a lighter one, until a refutation
+//! shows that there is none. While the weight may still be far above the least weight, a search asks for a much lighter
+//! configuration, so that few searches are needed.
 ghost use Rattle.std.specs.Prelude.{◌≡◌, ◌≤◌, ◌*◌, ◌↔◌, length, All, IfOk};
 ghost use Rattle.dd_values.specs.Bounds.{most_variables, most_weight};
 ghost use Rattle.dd_pattern.specs.Periods.{periods_of, periods_volume};
@@ -29,7 +30,8 @@ use std::alloc::{AllocError, Global};
 /// A torus on which the rule takes more clauses than this isn't searched locally.
 const MOST_LOCAL_CLAUSES: u64 = 200_000;
 
-/// The first step of the descent. The descent ends once the weight is known to be at most this much above the least weight.
+/// The step with which the descent begins (see `descended`). The descent ends once the weight is known to be at most this much
+/// above the least weight.
 const NEAR: u64 = 32;
 
 /// The least weight of the configurations of given periods that live in a rule's subshift.
@@ -123,9 +125,9 @@ fn lightened(
 }
 
 /// The descent: goes from the living configuration `start` to one that weighs at most `NEAR` more than the least weight. After a
-/// local search, each search asks for a configuration that is lighter than the last one found by more than `step`. No living
-/// configuration weighs less than `refuted`. If each weight that small is less than `refuted`, the search asks for a
-/// configuration of the weight `refuted` instead. A success doubles the step, and a refutation sets it back to `NEAR`.
+/// local search, each search asks for a configuration that is lighter by more than `step` than the last one found. No living
+/// configuration weighs less than `refuted`. If even the weight `refuted` isn't that small, the search asks for a configuration
+/// of the weight `refuted` instead. A success doubles the step, and a refutation sets it back to `NEAR`.
 fn descended(
     alloc: Global,
     rule: &Rule,

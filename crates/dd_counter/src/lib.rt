@@ -1,6 +1,7 @@
 //! Configurations of least weight on a torus: the clauses that ask for a weight below a bound, and the search for the least
 //! weight. A torus stands for the configurations with given periods. The weight of a configuration is the sum of the weights of
-//! the symbols in one fundamental box. A configuration lives in a rule's subshift if it obeys the rule at every cell.
+//! the symbols in one fundamental box, the box that repeats. A configuration lives in a rule's subshift if it obeys the rule at
+//! every cell. A living configuration has the torus's periods and lives in the rule's subshift.
 #![tactic(auto)]
 
 mod counter;

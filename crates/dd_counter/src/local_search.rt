@@ -1,8 +1,8 @@
-//! A local search for lighter configurations of a torus. It changes one cell at a time. While the configuration is too heavy, a
-//! cell gets a lighter symbol, such that the rule becomes false at as few cells as possible. Once the configuration is light
-//! enough, the search looks at a cell where the rule is false. One of the cells that the rule reads there gets another symbol.
-//! The longer the rule stays false at a cell, the more that cell counts (Morris 1993), as in NuMVC (Cai, Su, Luo and Sattar
-//! 2013).
+//! A local search for lighter configurations of a torus. It changes one cell at a time. While the configuration is no lighter
+//! than the best result so far, a cell gets a lighter symbol, chosen so that the rule becomes false at as few cells as
+//! possible. Once the configuration is lighter, the search looks at a cell where the rule is false. One of the cells that the
+//! rule reads there gets another symbol. The longer the rule stays false at a cell, the more that cell counts: its penalty
+//! grows (Morris 1993), as in NuMVC (Cai, Su, Luo and Sattar 2013).
 //!
 //! No contract depends on this search: its result is checked afterwards. No invariant says that the indices kept here are within
 //! their lists. So the code tests each index. These tests never fail.
@@ -11,7 +11,7 @@ use dd_formula::Rule;
 use std::alloc::{AllocError, Global};
 
 /// How much the search may cost until it finds a lighter configuration. Once it has cost this much without finding one, it ends.
-/// This much work takes some milliseconds.
+/// This much work takes a few milliseconds.
 const PATIENCE: u64 = 100_000;
 
 /// How much the whole search may cost. This much work takes about a second.
@@ -39,7 +39,7 @@ pub(crate) struct LocalSearch<'a> {
     symbols: Vec<u32>,
     /// The sum of the weights of the symbols.
     weight: u64,
-    /// The cells where the rule is false, in no order.
+    /// The cells where the rule is false, in no particular order.
     falses: Vec<usize>,
     /// For each cell, its index in `falses`, or `usize::MAX` if the rule is true there.
     places: Vec<usize>,
@@ -224,7 +224,7 @@ impl<'a> LocalSearch<'a> {
         self.symbols.get(cell).copied().unwrap_or(0)
     }
 
-    /// Whether the rule was false at a cell before the change that is looked at.
+    /// Whether the rule was false at a cell before the current change.
     fn was_false(&self, cell: usize) -> bool {
         match self.places.get(cell) {
             Some(place) => *place < self.falses.len(),

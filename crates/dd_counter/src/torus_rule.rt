@@ -8,7 +8,8 @@ use dd_numbered::{Numbered, Numbers};
 use dd_pattern::{Periodic, Reads};
 use std::alloc::{AllocError, Global};
 
-/// Numbers cells that are given relative to the position `at`. The number of such a cell is the symbol that `numbers` has there.
+/// Numbers cells that are given relative to the position `at`. The number of such a cell is its symbol in `numbers`, where the
+/// symbol of each cell is the cell's number (see `numbered_box`).
 #[derive(Drop)]
 struct Around<'a, R> {
     numbers: &'a R,
@@ -124,7 +125,7 @@ impl TorusRule {
         Ok(())
     }
 
-    /// Notes for each cell at which cells the rule reads it.
+    /// Notes, for each cell, the cells at which the rule reads it.
     fn note_readers(&mut self) -> Result<(), AllocError> {
         for reader in 0..self.cells.len() {
             for place in 0..self.cells[reader].reads.len() {
@@ -169,7 +170,7 @@ impl TorusRule {
         }
     }
 
-    /// Whether the rule is true at a cell, under these symbols of all cells.
+    /// Whether the rule is true at a cell if these are the symbols of all cells.
     pub(crate) fn is_true(&self, cell: usize, symbols: &[u32]) -> bool {
         match self.cells.get(cell) {
             Some(cell_rule) => cell_rule.formula.truth(symbols),
@@ -186,7 +187,8 @@ impl TorusRule {
     }
 }
 
-/// The configuration with the same fundamental box in which the symbol of each cell is the cell's number.
+/// The configuration with the periods and the shear of `periodic` in which the symbol of each cell of the fundamental box is
+/// the cell's number.
 fn numbered_box(alloc: Global, periodic: &Periodic) -> Result<Option<Periodic>, AllocError> {
     let mut numbers: Vec<u32> = Vec::new(alloc);
     for number in 0..periodic.symbols().len() {

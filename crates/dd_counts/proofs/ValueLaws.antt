@@ -1,4 +1,4 @@
--- The number of clauses of an automaton's value, from the numbers of its parts.
+-- The number of clauses of an automaton's value, from the numbers of clauses of the values of its parts.
 use Rattle.std.proofs.Common.{◌≡◌, ℕ, zero, suc, ◌+◌, ◌*◌, map, refl, ap, ◌∙◌, arith}
 use Rattle.std.specs.List.{range_with_len}
 use Rattle.dd_lattice.specs.{InOrder.in_order, declared.position.Cell.Cell}

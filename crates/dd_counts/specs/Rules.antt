@@ -1,5 +1,5 @@
 -- How many patterns a rule has at a node, how many states its transfer graph has over a strip, and the limits on both. The vertices of a transfer
--- graph are states. A state is a filling of successive slices, and a slice of a strip has the cells of one x.
+-- graph are states. A state is a filling of successive slices, and a slice of a strip consists of its cells with one value of x.
 use Rattle.std.specs.Prelude.{ℕ, ◌+◌, ◌-◌, ◌*◌, ◌^◌, max, ℤ, pos, ◌-ℤ◌, unsigned_abs, List, length}
 use Rattle.std.specs.{Int.int_min, Int.int_max, List.fold}
 use Rattle.dd_lattice.specs.declared.position.Cell.{Cell}
@@ -14,8 +14,8 @@ abbrev pub most_states : ℕ
 most_states = 4096
 
 -- the greatest number of windows that there may be over a strip; a window is like a state, but has one more slice
-abbrev pub most_longer_states : ℕ
-most_longer_states = 131072
+abbrev pub most_windows : ℕ
+most_windows = 131072
 
 -- the number of patterns of a rule at a node: fillings of the cells that the rule reads there
 abbrev pub pattern_count : LocalRule → ℕ → ℕ
@@ -29,7 +29,8 @@ least_x from cs = fold (λ x c. int_min x c.position.x) from cs
 abbrev pub greatest_x : ℤ → List Cell → ℤ
 greatest_x from cs = fold (λ x c. int_max x c.position.x) from cs
 
--- the number of slices from the first to the last that the rule reads when it is evaluated at a cell; the cell's own slice always counts as read
+-- the number of slices from the first to the last that the rule reads when it is evaluated at the cells of one position; the slice of this position
+-- always counts as read
 abbrev pub slice_span : LocalRule → ℕ
 slice_span r = unsigned_abs (greatest_x (pos 0) (all_cells r) -ℤ least_x (pos 0) (all_cells r)) + 1
 
@@ -46,5 +47,5 @@ abbrev pub states : LocalRule → ℕ → ℕ
 states r volume = slices r volume ^ state_length r
 
 -- the number of windows over a strip whose slices have `volume` positions
-abbrev pub longer_states : LocalRule → ℕ → ℕ
-longer_states r volume = slices r volume ^ (state_length r + 1)
+abbrev pub window_count : LocalRule → ℕ → ℕ
+window_count r volume = slices r volume ^ (state_length r + 1)

@@ -9,7 +9,7 @@ mod values;
 
 pub use clauses::{broken_clauses, place_clauses, question_clauses};
 pub use rules::{
-    MOST_LONGER_STATES, MOST_PATTERNS, MOST_STATES, least_x, longer_states, patterns, state_length,
-    states,
+    MOST_PATTERNS, MOST_STATES, MOST_WINDOWS, least_x, patterns, state_length, states,
+    window_count,
 };
 pub use values::differ_clauses;

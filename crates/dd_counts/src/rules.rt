@@ -1,10 +1,11 @@
-//! How many patterns a rule has at a node, how many states its transfer graph has over a strip, and the limits on both. A pattern
-//! is a filling of the cells that the rule reads at the node: it gives each of them a symbol. A strip has no end along x. A slice
-//! of a strip has the cells of one `x`. The vertices of a transfer graph are states: a state is a filling of `state_length`
-//! successive slices. Each edge is a window, which is a filling of one more slice than a state.
+//! How many patterns a rule has at a node, how many states its transfer graph has over a strip, and the limits on both. A
+//! pattern is a filling of the cells that the rule reads at the node: it gives each of them a symbol. A strip has periods along
+//! y and z, and no end along x. A slice of a strip consists of its cells with one value of x. The vertices of a transfer graph
+//! are states: a state is a filling of `state_length` successive slices. Each edge is a window, which is a filling of one slice
+//! more than a state has.
 ghost use Rattle.std.specs.Prelude.{◌≡◌, ◌^◌, ◌<◌, ◌≤◌};
 ghost use Rattle.dd_formula.specs.Counts.{cut};
-ghost use Rattle.dd_counts.specs.Rules.{pattern_count, least_x, greatest_x, slice_span, state_length, slices, states, longer_states};
+ghost use Rattle.dd_counts.specs.Rules.{pattern_count, least_x, greatest_x, slice_span, state_length, slices, states, window_count};
 
 use dd_formula::{Rule, power};
 use dd_lattice::Cell;
@@ -16,7 +17,7 @@ pub const MOST_PATTERNS: u32 = 65_536;
 pub const MOST_STATES: u32 = 4_096;
 
 /// The greatest number of windows that there may be over a strip. A window is like a state, but has one more slice.
-pub const MOST_LONGER_STATES: u32 = 131_072;
+pub const MOST_WINDOWS: u32 = 131_072;
 
 /// The number of patterns of the rule at a node, or `limit + 1` if it is greater than `limit`. A pattern is a filling of the
 /// cells that the rule reads there.
@@ -56,8 +57,8 @@ fn greatest_x(from: i32, cells: &[Cell]) -> i32
     greatest
 }
 
-/// The number of slices from the first to the last that the rule reads when it is evaluated at a cell. The cell's own slice
-/// always counts as read.
+/// The number of slices from the first to the last that the rule reads when it is evaluated at the cells of one position. The
+/// slice of this position always counts as read.
 fn span(rule: &Rule) -> u64
     ensures value { result ≡ slice_span rule.now }
     ensures small { result ≤ 2 ^ 32 }
@@ -98,9 +99,9 @@ pub fn states(rule: &Rule, volume: u32, limit: u32) -> u32
 
 /// The number of windows over a strip whose slices have `volume` positions; or `limit + 1` if it is greater than `limit`. The
 /// rule's transfer graph has at most as many edges as there are windows.
-pub fn longer_states(rule: &Rule, volume: u32, limit: u32) -> u32
+pub fn window_count(rule: &Rule, volume: u32, limit: u32) -> u32
     requires { limit < 2 ^ 31 }
-    ensures { result ≡ cut limit (longer_states rule.now volume) }
+    ensures { result ≡ cut limit (window_count rule.now volume) }
 {
     power(limit, slices(rule, volume, limit), state_length(rule) + 1)
 }

@@ -10,18 +10,19 @@ use dd_formula::{Automaton, Cases, cut_off, plus};
 use dd_lattice::Cell;
 use std::alloc::{AllocError, Global};
 
-/// The number of clauses of the value, at a node, of an automaton by cases over an alphabet of `symbols` symbols; or `limit + 1`
-/// if it is greater than `limit`.
+/// For an automaton by cases, the number of clauses of its value at a node, over an alphabet of `symbols` symbols; or
+/// `limit + 1` if it is greater than `limit`.
 fn given_clauses(cases: &Cases, node: u32, symbols: u32, limit: u32) -> u32
     requires node { HasCaseNode cases.now node }
     requires limit { limit < 2 ^ 31 }
     ensures { result ≡ cut limit (given_clauses symbols cases.now node) }
 {
-    // Without cases, the default's gate has one clause. So does the gate of each symbol, and that of the default symbol has one
-    // more.
+    // Without cases, there is one clause for the gate that says that no case is true, one for the gate of each symbol, and one
+    // more for the gate of the default symbol.
     let mut clauses = plus(limit, 2, symbols);
     // Each case has a gate that says that it is the first true case. This gate has 2 clauses for the first case, 3 for the
-    // second, and so on. The case also adds one clause to the default's gate, and one to the gate of its symbol.
+    // second, and so on. The case also adds one clause to the gate that says that no case is true, and one to the gate of its
+    // symbol.
     let mut choosing = 4;
     for (rule, _) in cases.cases.as_slice() {
         let gates = cut_off(limit, rule.clause_count(node));

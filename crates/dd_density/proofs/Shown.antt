@@ -1,4 +1,4 @@
--- A closed walk has one mean and one density in lowest terms, so the check compares with the right ones.
+-- A closed walk has exactly one mean and one density in lowest terms. So those that the check computes are the only right ones.
 use Rattle.std.proofs.Common.{◌≡◌, ℕ, ◌*◌, ◌<◌, ◌≤◌, ◌^◌, Bool, IsTrue, ◌↔◌, List, length, Some, arith, sym, ◌∙◌, subst}
 use Rattle.std.proofs.Math.Nat.{mul-le-mul}
 use Rattle.std.specs.Prelude.{ℤ, pos, ◌-ℤ◌, ◌≤ℤ◌}

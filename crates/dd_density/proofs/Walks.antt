@@ -1,4 +1,4 @@
--- The walks of a strip's transfer graph, and the edges of the rule over the strip.
+-- The transfer graph has the walks, weights, potentials and ranks that are defined directly over the rule and the strip.
 use Rattle.std.proofs.Common.{◌≡◌, ℕ, ◌*◌, ◌%◌, ◌≤◌, ◌^◌, List, [], ◌∷◌, length, Some, arith, refl, sym, ap, ◌∙◌, subst}
 use Rattle.std.proofs.lemmas.Nat.{mod_below}
 use Rattle.std.specs.Prelude.{ℤ, pos, ◌-ℤ◌, ◌≤ℤ◌}
@@ -31,7 +31,7 @@ path_of r s weights g (w ∷ ws) u v is walk =
     let last : w % g.slices ≡ t = last_slice g u t w is.kept h in
     (ap (λ (x : ℕ). next_of g u x) last ∙ h, path_of r s weights g ws w v is walk.1)
 
--- the weight of a walk in the graph is its weight over the strip
+-- a walk has the same weight in the graph as over the strip
 pub weighed : (r : LocalRule) (s : Strip) (weights : List ℕ) (g : Transfer) (ws : List ℕ) → IsGraphOf r s weights g → weight_of g ws ≡ walk_weight r s weights ws
 weighed r s weights g [] is = refl
 weighed r s weights g (w ∷ ws) is =

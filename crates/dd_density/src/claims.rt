@@ -1,7 +1,8 @@
-//! Whether a closed walk, potentials or ranks are right for a transfer graph. An edge by a slice leads from a state to the
-//! state without its first slice and with this slice appended. Potentials are right for a mean, that of the closed walk:
-//! along each edge, the potential rises by at most the edge's bound. The bound of an edge of weight `w` is
-//! `mean.denominator * w - mean.numerator`. Ranks are right if the rank falls along each edge.
+//! Whether a closed walk, potentials or ranks are right for a transfer graph. A state consists of consecutive slices. An edge
+//! by a slice leads from a state to the state that results if the first slice is dropped and this slice is appended.
+//! Potentials are right for the mean of the closed walk if the potential rises along each edge by at most the edge's bound.
+//! The bound of an edge of weight `w` is `mean.denominator * w - mean.numerator`. Ranks are right if the rank falls along
+//! each edge.
 ghost use Rattle.std.specs.Prelude.{◌≡◌, ℕ, ◌*◌, ◌%◌, ◌<◌, ◌≤◌, ◌^◌, ◌↔◌, IsTrue, MatchOption, Some, length, pos, ◌-ℤ◌, ◌≤ℤ◌};
 ghost use Rattle.dd_transfer.specs.Graphs.{next_of, weight_at, IsTransfer};
 ghost use Rattle.dd_meancycle.specs.Means.{IsCycle, ArePotentials, weight_of};
@@ -34,7 +35,7 @@ fn last_weight(graph: &Graph, state: u64) -> u64
     graph.slice_weight((state % graph.slices() as u64) as u32)
 }
 
-/// The weight of a closed walk. `None` exactly if the walk isn't closed.
+/// The weight of a closed walk. `None` exactly when the walk isn't closed.
 fn closed_weight(graph: &Graph, walk: &[u64]) -> Option<u128>
     ensures { MatchOption result (¬ (IsCycle graph.now walk.now)) (λ w. IsCycle graph.now walk.now × (w ≡ weight_of graph.now walk.now) × (w < 2 ^ 89)) }
 {
@@ -81,7 +82,8 @@ fn is_rise_between(from: u32, to: u32, weight: u64, potentials: &[i64], mean: Ra
     is_rise(from, to, weight, mean)
 }
 
-/// Whether the potential rises along the edge from `state` by `slice` by at most its bound. True if there is no such edge.
+/// Whether the potential rises by at most the edge's bound along the edge from `state` by `slice`. True if there is no such
+/// edge.
 fn is_rise_along(graph: &Graph, state: u32, slice: u32, potentials: &[i64], mean: Ratio) -> bool
     requires state { state < graph.now.states }
     requires slice { slice < graph.now.slices }

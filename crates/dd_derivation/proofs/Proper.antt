@@ -54,7 +54,7 @@ proper_snoc n (x ∷ xs) l r p a =
 abbrev pub mark_of : List VariableMark → ℕ → VariableMark
 mark_of marks v = get_or marks (v - 1) (record { step = 0; positive = false })
 
--- a literal in range is false exactly if its variable has a mark of this step and of its sign
+-- a literal in range is false exactly when its variable has a mark of this step and of its sign
 marked_at : (marks : List VariableMark) (step : ℕ) (front : List Literal) (x : Literal) → FalsesAre marks step [] front → IsLiteralInRange (length marks) x → is_among front x ≡ ((eqb (mark_of marks x.variable).step step) && beq (mark_of marks x.variable).positive x.positive)
 marked_at marks step front x m r = sym (rw (in_range-true (length marks) x r) at (m x))
 

@@ -78,8 +78,8 @@ abbrev pub is_proper : ℕ → List Literal → Bool
 is_proper n [] = true
 is_proper n (l ∷ rest) = (is_literal_in_range n l && not (has_variable l.variable rest)) && is_proper n rest
 
--- The step is right. Its clause is proper. If the literals of its clause are false, its hints end in a conflict, so the clause follows. The clauses
--- that it deletes exist.
+-- The step is right, which means three things. Its clause is proper. If the literals of its clause are false, its hints end in a conflict, so the
+-- clause follows. The clauses that it deletes exist.
 abbrev pub is_right : ℕ → List (Option (List Literal)) → Step → Bool
 is_right n known s = is_proper n s.clause && (is_conflict known s.clause s.hints && are_deletable known s.deletes)
 

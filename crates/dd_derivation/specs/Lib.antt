@@ -1,4 +1,4 @@
--- refutations of a list of clauses: steps whose clauses follow one after the other, and when a step is right
+-- refutations of a clause list: when a step is right, and when steps refute the list
 pub mod Derivations
 -- how much memory a check needs, and when the numbers of clauses and steps are in range
 pub mod Sizes

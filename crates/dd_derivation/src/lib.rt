@@ -1,6 +1,6 @@
 //! Refutations of a clause list, and their check. A refutation is a list of steps. Each step gives a clause that follows from
 //! clauses before it, and hints: the numbers of the clauses that show this. The last step's clause is empty, so no assignment
-//! satisfies the list.
+//! satisfies the clause list.
 #![tactic(auto)]
 
 mod known;

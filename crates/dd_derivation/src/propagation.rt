@@ -1,7 +1,7 @@
 //! Unit propagation along the hints of a step. The literals of the step's clause are assumed to be false. Then each hinted clause
 //! makes one more literal true, until a hinted clause has only false literals. The mark of a variable says which of its literals
 //! is false. It also holds the number of the step that made it, so marks need not be cleared between steps. For this, steps are
-//! numbered from 1 in the order in which they are checked. A step has another number as a clause, by which hints refer to it.
+//! numbered from 1 in the order in which they are checked. The clause of a step has another number, by which hints refer to it.
 ghost use Rattle.std.specs.Prelude.{◌≡◌, ◌<◌, [], Bool, length, take, true, slice_index_or};
 ghost use Rattle.dd_clause.specs.declared.clause.Literal.{Literal};
 ghost use Rattle.dd_derivation.specs.Derivations as spec;

@@ -47,7 +47,7 @@ impl Marks {
     }
 }
 
-/// The number of the last step. The clauses are numbered from 1, and the steps continue their numbers.
+/// The number of the last step. First the clauses are numbered, from 1, and then the steps.
 pub fn last_number(cnf: &Cnf, steps: &[Step]) -> u64
     ensures value { result ≡ length cnf.now.clauses + length steps.now }
     ensures few { length cnf.now.clauses + length steps.now ≤ 2 ^ 64 - 1 }

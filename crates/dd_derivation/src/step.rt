@@ -7,8 +7,8 @@ use dd_values::Items;
 /// The C clauses of a list have the numbers 1 to C, and the steps after them have the numbers from C + 1 on. A step refers to its
 /// hints and to the clauses that it deletes by number. No later step may use a deleted clause as a hint.
 ///
-/// Proofs whose clauses follow by unit propagation are due to Goldberg and Novikov (2003). The hints are those of the format LRAT
-/// of Cruz-Filipe, Heule, Hunt, Kaufmann and Schneider-Kamp (2017).
+/// Proofs whose clauses follow by unit propagation are due to Goldberg and Novikov (2003). The hints are those of the LRAT
+/// format of Cruz-Filipe, Heule, Hunt, Kaufmann and Schneider-Kamp (2017).
 #[derive(Debug, Drop)]
 pub struct Step {
     /// The clause that follows.

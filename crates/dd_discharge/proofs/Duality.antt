@@ -1,6 +1,7 @@
--- Weak duality: if the duals are at least 0, no amounts let each position hold more than the duals are worth. What each holds
--- is at most the double sum of dual times coefficient times column, since the sum of dual times coefficient is at least 1 in
--- column 0 and at least 0 in the other columns. Taken row by row, the double sum is at most the sum of dual times right side.
+-- Weak duality: no amounts let each position hold more than the duals are worth. What each position holds is at most the double
+-- sum of dual times coefficient times column, since the sum, over the rows, of dual times coefficient is at least 1 in column 0
+-- and at least 0 in the other columns. Taken row by row, the double sum is at most the sum of dual times right side, since the
+-- duals are at least 0.
 use Rattle.std.proofs.Common.{◌≡◌, ℕ, zero, suc, ◌+◌, ◌*◌, ◌/◌, ◌%◌, ◌<◌, ◌≤◌, List, [], ◌∷◌, length, refl, sym, ap, subst, ◌∙◌, slice_index, arith}
 use Rattle.std.proofs.lemmas.{Nat.div-add-mod', Int.ints}
 use lib.IntN.{ℤ, pos, negsuc, ◌+ℤ◌, ◌*ℤ◌, *ℤ_comm}

@@ -75,7 +75,7 @@ printed_none n p = rw (lt-leb n most_number p) refl
 pub printed_some : (n : ℕ) → n ≤ most_number → Some n ≡ printed n
 printed_some n p = rw (le-leb n most_number p) refl
 
--- the product that is tested is the least common multiple
+-- the product that `joined` tests is the least common multiple
 pub multiple_is : (n : ℕ) (a r : Exact) (x y s t : ℤ) (u v : ℕ) → IsFraction a → x ≡ pos n → y ≡ pos a.den → Some r ≡ fraction_of x y
     → s ≡ r.num → u ≡ unsigned_abs s → t ≡ pos a.den → v ≡ unsigned_abs t → u * v ≡ joined_denominator n a
 multiple_is n a r x y s t u v f px py pr ps pu pt pv =

@@ -1,5 +1,5 @@
--- Fractions as whole numbers over a common denominator. To add or compare the fractions, or to multiply them by whole numbers,
--- it is enough to do so with the whole numbers.
+-- Fractions as numerators over a common denominator. To add or compare the fractions, or to multiply them by whole numbers, it
+-- is enough to do so with the numerators.
 use Rattle.std.proofs.Common.{◌≡◌, ℕ, zero, suc, ◌+◌, ◌*◌, ◌/◌, ◌%◌, ◌<◌, ◌≤◌, max, sym, ap, ◌∙◌, arith}
 use Rattle.std.proofs.{lemmas.Int.ints, Math.Nat.div-mul_cancel}
 use Prim.Native.Nat.{◌∣◌}

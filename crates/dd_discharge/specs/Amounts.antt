@@ -39,7 +39,7 @@ abbrev pub dual_worth : List Row → List ℕ → ℤ
 dual_worth rows duals = total_below (λ k. pos (slice_index duals k * (row_in rows k).bound)) (length rows)
 
 -- There is a dual for each row. In each column, take the sum, over the rows, of dual times coefficient. In column 0 it is at
--- least 1, as a numerator at least `common`. In each other column it is at least 0.
+-- least 1, so its numerator is at least `common`. In each other column it is at least 0.
 pub record AreDualsOver (rows : List Row) (columns common : ℕ) (duals : List ℕ) : Type 0 where
   pub size : length duals ≡ length rows
   pub first : pos common ≤ℤ column_sum rows duals 0

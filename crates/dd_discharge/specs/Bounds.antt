@@ -58,7 +58,7 @@ pub record Overflows (x : LocalRule) (ws : List ℕ) (radius margin : ℕ) (vs :
   pub is_program : IsProgramOf x ws radius margin vs program
   pub over : RunOverflows (linear_program (length vs) program) pivots ⊎ EndsUnprinted (linear_program (length vs) program) pivots
 
--- the run reaches its limit of pivots
+-- the run has not ended after this many pivots
 pub record StopsAtPivots (x : LocalRule) (ws : List ℕ) (radius margin : ℕ) (vs : List Place) (pivots : ℕ) : Type 0 where
   pub program : Rows
   pub is_program : IsProgramOf x ws radius margin vs program

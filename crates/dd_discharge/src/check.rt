@@ -1,6 +1,7 @@
-//! The check of a claimed bound. It compares sums of whole numbers, which are numerators over the common denominator.
-//! Coefficients are from -1 to 1, and there are at most 2,048 rows and 256 columns, so no sum exceeds 2^92. `held` is the
-//! bound, as a numerator over the common denominator.
+//! The check of a claimed bound. It compares sums of whole numbers, which are numerators over the common denominator. `held` is
+//! the bound, as a numerator over the common denominator; it is at most 2^80. The amounts and the duals are less than 2^64.
+//! Coefficients are from -1 to 1, and right sides are at most 4,000. So each term of a sum is at most 2^80 in absolute value.
+//! There are at most 2,048 rows and 256 columns, so no sum exceeds 2^91 in absolute value.
 ghost use Rattle.std.specs.Prelude.{◌≡◌, ℕ, ◌+◌, ◌*◌, ◌<◌, ◌≤◌, ◌^◌, pos, ◌-ℤ◌, ◌*ℤ◌, ◌≤ℤ◌, length, slice_index_or, unsigned_abs, true, false};
 ghost use Rattle.std.specs.List.{All};
 ghost use Rattle.dd_values.specs.Bounds.{most_number};
@@ -98,7 +99,8 @@ fn meets_rows(rows: &[Row], columns: usize, common: u64, held: u128, amounts: &[
 }
 
 /// Whether the duals combine the coefficients as they should. In each column, take the sum, over the rows, of dual times
-/// coefficient. In column 0 it must be at least 1, as a numerator at least `common`. In each other column it must be at least 0.
+/// coefficient. In column 0 it must be at least 1, so its numerator must be at least `common`. In each other column it must be
+/// at least 0.
 fn are_duals(rows: &[Row], columns: usize, common: u64, duals: &[u64]) -> bool
     requires rows { AreRowsOf columns rows.now }
     requires size { length duals.now ≡ length rows.now }

@@ -16,8 +16,8 @@ use std::alloc::Global;
 
 /// The best bound of the rule along the vectors. Along each vector, each position gives an amount that the pattern around it
 /// determines. The bound is the greatest number c such that, for some amounts, every position then holds at least c. The
-/// result also has such amounts, and duals that show that no amounts do better. `dd_simplex` finds all of these: it maximises
-/// the rule's program in at most `pivots` pivots.
+/// result also has such amounts, and duals that show that no amounts do better. `dd_simplex` finds all of these: it solves the
+/// rule's program in at most `pivots` pivots.
 ///
 /// # Errors
 /// - `Large` if the program passes a limit on its size.

@@ -6,8 +6,8 @@ ghost use Rattle.dd_discharge.specs.declared.bound.Bound.{Bound as AnyBound};
 ghost use Rattle.dd_discharge.specs.Outcomes.{HasOneOutcome};
 ghost use Rattle.dd_discharge.specs.Certificates.{IsBoundCertificate, BestOf};
 
-/// Does nothing; its contract says that a certified bound is the best: no amounts that meet the rows let each position hold
-/// more, whatever their common denominator.
+/// Does nothing; its contract says that a certified bound is the best: no amounts that meet the rows of the rule's program let
+/// each position hold more, whatever their common denominator.
 #[tactic(auto, using(crate::proofs::BestBounds::best_bound))]
 pub fn best_bound()
     ensures { (x : LocalRule) (weights : List ℕ) (radius margin : ℕ) (vectors : List Place) (bound : AnyBound) →

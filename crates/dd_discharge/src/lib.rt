@@ -1,6 +1,7 @@
 //! Bounds by discharging. In a discharge, each position first holds a weight, and then gives amounts along some vectors. A
 //! bound is a number such that each position then holds at least this number. This crate finds the best bound of a rule along
-//! some vectors, says what certifies it, and checks claimed bounds.
+//! some vectors, says what certifies it, and checks claimed bounds. The best bound is the value of a linear program, the
+//! program of the rule along the vectors. `dd_rows` makes this program, and `dd_simplex` solves it.
 #![tactic(auto, using(std::proofs::lemmas::Grind::common_steps))]
 
 mod best;

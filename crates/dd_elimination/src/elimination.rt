@@ -1,7 +1,7 @@
 //! Variables are resolved away (Davis and Putnam 1960) where that leaves no more clauses than before: the clauses with the
-//! variable are replaced by all their resolvents on it. A clause that contains all literals of another is removed, and a literal
-//! that another clause makes redundant is dropped (Eén and Biere 2005). Each new clause is a step, whose hints are the two clauses
-//! that it comes from.
+//! variable are replaced by all their resolvents on it. A clause that contains all literals of another is removed, and a
+//! literal that another clause makes redundant is dropped (Eén and Biere 2005). Each new clause is a step of a derivation. The
+//! step's hints are the two clauses that the new clause comes from.
 //!
 //! No contract depends on what is done here. The search on the remaining clauses gives an answer, an answer for the whole list is
 //! made from it, and that one is checked. No invariant says that the indices kept here are within their lists. So the code tests
@@ -12,7 +12,8 @@ use dd_derivation::Step;
 use dd_values::Items;
 use std::alloc::{AllocError, Global};
 
-/// A variable is kept if there are more pairs than this of a clause with it and a clause with its negation.
+/// A variable's pairs are the pairs of a clause with it and a clause with its negation. A variable with more pairs than this is
+/// kept.
 const MOST_PAIRS: usize = 1000;
 
 /// A variable is kept if one of its resolvents has more literals than this.
@@ -416,7 +417,8 @@ impl Elimination {
         Ok(true)
     }
 
-    /// Whether there are clauses with the variable, no more resolvents than clauses, and no resolvent that is too long.
+    /// Whether there are clauses with the variable or its negation, not too many pairs of them, no more resolvents than
+    /// clauses, and no resolvent that is too long.
     fn is_worth_it(&mut self, variable: u32, sides: &Sides) -> bool {
         let most = sides.positive.len().saturating_add(sides.negative.len());
         if most == 0 || sides.positive.len().saturating_mul(sides.negative.len()) > MOST_PAIRS {

@@ -1,8 +1,8 @@
 //! The list without the variables that unit propagation fixes, and the way back: from an answer for it to an answer for the whole
 //! list. A clause with a true literal is left out, and from the other clauses the false literals are dropped.
 //!
-//! A search on the whole list meets the fixed variables in each conflict, and has to resolve with the clauses that force their
-//! values each time.
+//! A search on the whole list meets the fixed variables in each conflict, and each time has to resolve with the clauses that
+//! force their values.
 use crate::propagation::{Fixed, code_of};
 use crate::whole::renumbered_step;
 use dd_clause::{Assignment, Clause, Cnf, Literal};
@@ -21,13 +21,13 @@ pub(crate) struct Remaining {
     origins: Vec<usize>,
 }
 
-/// Takes clauses one after the other, and keeps of each the literals whose variables aren't fixed.
+/// Takes clauses one after the other. From each it keeps the literals whose variables aren't fixed.
 #[derive(Drop)]
 struct Sieve<'a> {
     fixed: &'a Fixed,
-    /// The literals that are kept of the last clause.
+    /// The literals that are kept from the last clause.
     kept: Vec<Literal>,
-    /// For each literal, at the index of its code, the number of the last clause of which it was kept.
+    /// For each literal, at the index of its code, the number of the last clause from which it was kept.
     last: Vec<u64>,
     /// How many clauses have been sieved.
     count: u64,
@@ -244,7 +244,7 @@ impl<'a> Sieve<'a> {
         Ok(true)
     }
 
-    /// Whether the literal is kept of the last clause.
+    /// Whether the literal is kept from the last clause.
     fn is_kept(&self, literal: Literal) -> bool {
         self.last.get(code_of(literal)).copied() == Some(self.count)
     }
@@ -301,8 +301,8 @@ impl<'a> Derived<'a> {
         Ok(hints)
     }
 
-    /// The number of the clause that is left if the false literals of the clause at `origin` are dropped. If it has any, adds a
-    /// step that derives the shorter clause. `literals` are the literals that are left.
+    /// The number of the clause that is left if the false literals of the clause at `origin` are dropped. If there are any,
+    /// adds a step that derives the shorter clause. `literals` are the literals that are left.
     fn number(
         &mut self,
         alloc: Global,

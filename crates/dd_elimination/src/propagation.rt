@@ -1,5 +1,5 @@
-//! Unit propagation on a whole list. A clause of one literal fixes the value of the literal's variable. A clause in which all
-//! literals but one have become false fixes the value of that one's variable.
+//! Unit propagation on a whole list. A clause of one literal fixes the value of the literal's variable. If all literals of a
+//! clause but one have become false, the clause makes the remaining one true, and so fixes the value of its variable.
 //!
 //! No contract depends on what is done here, and no invariant says that the indices kept here are within their lists. So the code
 //! tests them. The tests never fail.
@@ -22,7 +22,7 @@ pub(crate) struct Fixed {
     pub forced: Vec<Forced>,
 }
 
-/// The clauses that contain each literal, by their indices.
+/// For each literal, the indices of the clauses that contain it.
 #[derive(Drop)]
 struct Occurrences {
     /// For each literal, at the index of its code, where its clauses begin in `clauses`. They end where those of the next code
@@ -31,7 +31,7 @@ struct Occurrences {
     clauses: Vec<u32>,
 }
 
-/// A propagation that is going on.
+/// A propagation in progress.
 #[derive(Drop)]
 struct Propagation<'a> {
     clauses: &'a [Clause],
@@ -179,8 +179,8 @@ impl<'a> Propagation<'a> {
         Ok(true)
     }
 
-    /// Looks at a clause that has at most one literal without a value. If none of its literals is true, makes that one true.
-    /// Returns false if all literals are false.
+    /// Looks at a clause that has at most one literal without a value. If all its other literals are false, makes this one
+    /// true. Returns false if all literals are false.
     fn look_at(&mut self, index: usize) -> Result<bool, AllocError> {
         let Some(clause) = self.clauses.get(index) else {
             return Ok(true);

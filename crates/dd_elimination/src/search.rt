@@ -11,11 +11,11 @@ use dd_solver::{Style, solve, solve_with, trimmed};
 use dd_values::Items;
 use std::alloc::{AllocError, Global};
 
-/// `solve_reduced` searches a list with more clauses than this as it is.
+/// If a list has more clauses than this, `solve_reduced` eliminates no variables before the search.
 const MOST_CLAUSES: usize = 200_000;
 
-/// Like `solve_with`, but the variables that unit propagation fixes are eliminated before the search. This is faster on lists of
-/// boxes and tori, and most long refutations are shorter.
+/// Like `solve_with`, but the variables that unit propagation fixes are eliminated before the search. This is faster on the
+/// clauses of questions about boxes and tori, and most long refutations are shorter.
 pub fn solve_propagated(alloc: Global, cnf: &Cnf, style: Style) -> Result<Outcome, AllocError>
     ensures answer { IfOk result (IsAnswer cnf.now.variables cnf.now.clauses) }
     ensures found { IfOk result (λ outcome. IsFound outcome ↔ IsSatisfiable cnf.now.clauses) }
@@ -24,7 +24,7 @@ pub fn solve_propagated(alloc: Global, cnf: &Cnf, style: Style) -> Result<Outcom
     propagated_answer(alloc, cnf, style)
 }
 
-/// Like `solve`, but variables are eliminated before the search. This is faster on lists of least weights.
+/// Like `solve`, but variables are eliminated before the search. This is faster on clauses that ask for a weight below a bound.
 pub fn solve_reduced(alloc: Global, cnf: &Cnf) -> Result<Outcome, AllocError>
     ensures answer { IfOk result (IsAnswer cnf.now.variables cnf.now.clauses) }
     ensures found { IfOk result (λ outcome. IsFound outcome ↔ IsSatisfiable cnf.now.clauses) }
@@ -91,7 +91,8 @@ fn find_reduced(alloc: Global, cnf: &Cnf) -> Result<Option<Outcome>, AllocError>
     match solve_with(alloc, &reduced.cnf, Style::Focused)? {
         Outcome::Found(assignment) => Ok(confirmed(cnf, elimination.extended(alloc, &assignment)?)),
         Outcome::Refuted(steps) => {
-            let whole = elimination.into_refutation(reduced.numbers.as_slice(), steps)?;
+            let used = trimmed(alloc, &reduced.cnf, steps)?;
+            let whole = elimination.into_refutation(reduced.numbers.as_slice(), used)?;
             confirmed_refutation(alloc, cnf, whole)
         }
     }

@@ -14,8 +14,8 @@ use Rattle.dd_engines.specs.propagation.Following.{alive, falses, IsForced, IsTr
 use Rattle.dd_engines.specs.propagation.Analysis.{marks, Grows, AreMarked}
 use Rattle.dd_engines.proofs.Following.{forced_has}
 
--- Let p and q say which literals are false. If they agree on the literals of a clause, they leave the same literals of it. If q also
--- calls no more literals false than p, it finds the same conflict or forced literal.
+-- Let p and q say which literals are false. If they agree on the literals of a clause, they leave the same literals of it. If also each
+-- literal that is false by q is false by p, then q finds the same conflict or forced literal as p.
 filter_same : (p q : Literal → Bool) (c : List Literal) → ((x : Literal) → In c x → p x ≡ q x) → filter (λ x. not (p x)) c ≡ filter (λ x. not (q x)) c
 filter_same p q [] same = refl
 filter_same p q (y ∷ c) same = rw (same y (in_here c y), filter_same p q c (λ x i. same x (or_right _ _ i))) refl
@@ -42,7 +42,7 @@ pub record Start (entries : List Entry) (i : ℕ) (marked : List Bool) (start : 
 pub record Leads (cs : List (List Literal)) (entries : List Entry) (i : ℕ) (marked : List Bool) (hints : List ℕ) : Type 0 where
   pub leads : (start : List Literal) → Start entries i marked start → is_conflict (alive cs) start hints ≡ true
 
--- if all variables of a clause are marked, then each such start finds the same conflict or forced literal for it
+-- if all variables of a clause are marked, each such start finds the same conflict or forced literal for it as all the earlier entries do
 from_start : (entries : List Entry) (i : ℕ) (marked : List Bool) (start c : List Literal) (f : Finding) → Start entries i marked start → AreMarked marked c → (f ≡ Open → ⊥) → finding (is_among (falses (take i entries))) c ≡ f → finding (is_among start) c ≡ f
 from_start entries i marked start c f s m shut is = same_finding (is_among (falses (take i entries))) (is_among start) c f fewer same shut is
   where
@@ -64,7 +64,7 @@ clause_at cs k lt = rw (add-one k) (at cs k lt)
     at (c ∷ cs) zero lt = refl
     at (c ∷ cs) (suc k) lt = at cs k (omega (arith, lt))
 
--- the walk begins at the conflict
+-- the walk back begins at the conflict
 pub leads_conflict : (cs : List (List Literal)) (entries : List Entry) (marked : List Bool) (k : ℕ) → IsFalsified cs entries k → AreMarked marked (get_or cs k []) → Leads cs entries (length entries) marked ((k + 1) ∷ [])
 leads_conflict cs entries marked k conflict m = record {
   leads = λ start s.
@@ -76,7 +76,7 @@ leads_conflict cs entries marked k conflict m = record {
 falses-more : (entries : List Entry) (j : ℕ) (d : Entry) (x : Literal) → j < length entries → is_among (falses (take (j + 1) entries)) x ≡ is_among (falses (take j entries) ++ negation (get_or entries j d).literal ∷ []) x
 falses-more entries j d x lt = ap (λ (es : List Entry). is_among (falses es) x) (take_more entries j d lt) ∙ ap (λ (xs : List Literal). is_among xs x) (map-append (λ (e : Entry). negation e.literal) (take j entries) (get_or entries j d ∷ []))
 
--- a literal is false after an entry exactly if it was false before the entry, or if it is the negation of the entry's literal
+-- a literal is false after an entry exactly when it was false before the entry, or if it is the negation of the entry's literal
 later_from : (entries : List Entry) (j : ℕ) (d : Entry) (x : Literal) → j < length entries → In (falses (take j entries)) x → In (falses (take (j + 1) entries)) x
 later_from entries j d x lt i = falses-more entries j d x lt ∙ list_any-append (same_literal x) (falses (take j entries)) (negation (get_or entries j d).literal ∷ []) ∙ or_left _ _ i
 

@@ -8,7 +8,7 @@ use Rattle.dd_values.specs.Variables.{true_variables}
 use Rattle.dd_engines.specs.Walks.{is_unsatisfied, first_unsatisfied}
 use Rattle.dd_engines.specs.walking.Truths.{true_count, is_none_at, NoneIsNone}
 
--- a clause has no true literal exactly if its count is 0
+-- a clause has no true literal exactly when its count is 0
 none_true : (p : Literal → Bool) (xs : List Literal) → eqb (count_by p xs) 0 ≡ not (list_any p xs)
 none_true p [] = refl
 none_true p (x ∷ xs) = elim (cases_Bool (p x)) [

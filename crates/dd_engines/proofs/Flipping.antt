@@ -1,5 +1,5 @@
--- How a flip changes the counts of true literals. A clause's count rises by one for each time that the clause contains the literal, and
--- falls by one for each time that it contains the literal's negation.
+-- How a flip changes the counts of true literals. A clause's count rises by one for each time that the clause contains the literal made
+-- true, and falls by one for each time that it contains this literal's negation.
 use Rattle.std.proofs.Common.{◌≡◌, ℕ, zero, suc, ◌+◌, ◌-◌, ◌^◌, ◌<◌, ◌≤◌, Bool, true, false, cond, not, List, [], ◌∷◌, ◌++◌, refl, sym, ◌∙◌, ap, subst, inl, inr, length, get_or, map, arith, append_assoc, length-append}
 use Rattle.std.proofs.Math.ListN.{set, replicate}
 use Rattle.std.proofs.lemmas.Bool.{cases_eq, ne_eqb, eq-eqb, false≢true}

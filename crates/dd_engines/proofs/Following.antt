@@ -159,7 +159,8 @@ follows_from_nothing cs n = record {
   trail = λ k d h. absurd (omega (arith, h));
 }
 
--- Let f call no more literals false than g. If a clause is open by g, then it is open by f too, or by f it forces a literal that is true by g.
+-- Let each literal that is false by f be false by g. If a clause is open by g, then it is open by f too, or it forces by f a literal that is
+-- true by g.
 filter_again : (f g : Literal → Bool) → ((l : Literal) → f l ≡ true → g l ≡ true) → (c : List Literal) → filter (λ x. not (g x)) (filter (λ x. not (f x)) c) ≡ filter (λ x. not (g x)) c
 filter_again f g below [] = refl
 filter_again f g below (x ∷ xs) = elim (cases_Bool (f x)) [

@@ -48,7 +48,7 @@ kept_from_first _ _ nobody = none_left
 kept_from_first _ _ (first {old = old} {new = new} {before = before} {after = after} since kept) = stayed old new before after since.later kept
 kept_from_first _ _ (went {old = old} {before = before} {after = after} unsound asked) = let_go old before after unsound (kept_from_first before after asked)
 
--- if the first engine was asked in the last part of a period, it was asked in the whole period
+-- if the first engine was asked in the last part of a span of time, it was asked in this span
 pub first_after : (a b c : List Seen) → Kept a b → FirstAsked b c → FirstAsked a c
 first_after _ _ _ none_left nobody = nobody
 first_after _ _ _ (stayed old mid before middle p ps) (first {new = new} {after = after} q qs) = first (since_later old mid new p q) (kept_kept before middle after ps qs)

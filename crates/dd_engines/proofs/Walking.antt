@@ -120,7 +120,7 @@ rem_within k (suc n) some = let above : 0 < suc n = omega arith in omega (arith,
 some_same : (v w : List Bool) → Some v ≡ Some w → v ≡ w
 some_same v w e = cc
 
--- if no earlier values satisfy the clauses, and these leave a clause without a true literal, then no values up to these satisfy the clauses
+-- if no earlier values satisfy the clauses, and the present ones leave a clause without a true literal, no values up to now satisfy the clauses
 pub none_more : (cnf : ClauseList) (values : List Bool) (k : ℕ) (c : List Literal) → values_after cnf k ≡ Some values → first_unsatisfied values cnf.clauses ≡ Some c → NoneBefore cnf k → NoneBefore cnf (k + 1)
 none_more cnf values k c reached first before j other lt at satisfying = elim (cases_lt j k) [
   | inl earlier ↦ before j other earlier at satisfying

@@ -18,5 +18,5 @@ pub mod Walkers
 pub mod asking
 -- what follows by unit propagation from no assumptions, and which part of it a conflict needs
 pub mod propagation
--- how the code walks: counts of true literals, occurrence lists, and the landmark by which a cycle is noticed
+-- how the code walks: counts of true literals, occurrence lists, and the landmark, an earlier assignment by which a cycle is noticed
 pub mod walking

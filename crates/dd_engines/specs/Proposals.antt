@@ -37,7 +37,7 @@ abbrev pub IsRightOutcome : ClauseList → Outcome → Type 0
 IsRightOutcome cnf (Found values) = IsSatisfying cnf values
 IsRightOutcome cnf (Refuted steps) = IsRefuting cnf steps × IsUnsatisfiable cnf
 
--- how a round ends, by what it returns
+-- how a round ends, given what it returns
 abbrev pub round_end : {E : Type 0} → Result (Option Outcome) E → End
 round_end (Ok (Some outcome)) = found
 round_end (Ok None) = nothing

@@ -9,7 +9,7 @@ pub record Seen : Type 0 where
   pub given : ℕ
   pub sound : Bool
 
--- a 64-bit count rose by one, or it was already at its maximum and stays there
+-- a 64-bit count rose by one, or it was already at its maximum and stayed there
 abbrev pub RisesByOne : ℕ → ℕ → Type 0
 RisesByOne old new = (new ≡ old + 1) ⊎ ((old ≡ 2 ^ 64 - 1) × (new ≡ 2 ^ 64 - 1))
 

@@ -1,6 +1,7 @@
-//! The clauses that a conflict needs, found by going back over the trail (Marques-Silva and Sakallah 1999). The clause of the
-//! conflict needs the values of its variables. Each clause that forced a needed value needs, in turn, the values of its own
-//! variables.
+//! The clauses that a conflict needs. A conflict is a clause whose literals are all false. The trail lists, in order, the
+//! literals that became true by unit propagation. The needed clauses are found by going back over the trail (Marques-Silva and
+//! Sakallah 1999). The clause of the conflict needs the values of its variables. Each clause that forced a needed value needs,
+//! in turn, the values of its own variables.
 ghost use Rattle.std.specs.Prelude.{◌≡◌, All, length, IfOk};
 ghost use Rattle.dd_clause.specs.Clauses.{IsClauseInRange};
 ghost use Rattle.dd_engines.specs.propagation.Following.{IsTrail, IsFalsified, Ends};

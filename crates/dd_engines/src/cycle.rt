@@ -1,6 +1,6 @@
-//! Whether a walk is in a cycle: it is back at earlier values, and its flips pick the same literals again. One earlier
-//! assignment is kept, the landmark. The present assignment replaces it each time the number of flips has doubled (Brent 1980).
-//! A count says in how many variables the present assignment differs from the landmark.
+//! How a cycle of a walk is noticed. A walk is in a cycle if it is back at earlier values, and its flips pick the same literals
+//! again. One earlier assignment, the landmark, is kept. The present assignment replaces it each time the number of flips has
+//! doubled (Brent 1980). A count says in how many variables the present assignment differs from the landmark.
 //!
 //! A flip takes a clause, and picks a literal of it: the one whose place is the number of the flip modulo the length of the
 //! clause. Here a period is a common multiple of the lengths of the clauses taken since the landmark. It isn't the length of the
@@ -78,9 +78,9 @@ impl Landmark {
     }
 
     /// A period of the flips from the landmark up to and including flip number `k`, counted from 0. Flip `k` takes a clause of
-    /// this length. `period` is a period of the flips from the landmark up to flip `k`, if one is known. It isn't used if flip
-    /// `k` is the first since the landmark. Returns `None` if `period` is needed but is `None`, or if the new period is greater
-    /// than `most`: a walk of `most` flips has no use for it.
+    /// this length. `period` is a period of the flips from the landmark up to, but not including, flip `k`, if one is known. It
+    /// isn't used if flip `k` is the first since the landmark. Returns `None` if `period` is needed but is `None`, or if the
+    /// new period is greater than `most`: a walk of `most` flips has no use for it.
     pub fn period_with(&self, k: u32, period: Option<u32>, length: usize, most: u32) -> Option<u32>
         requires { IfSome period (λ t. 0 < t) }
         ensures { IfSome result (IsPeriodWith self.now.flips k period length) }

@@ -1,6 +1,6 @@
-//! Laws for callers that ask a roster several times, and a law of walks that are in a cycle. A round asks the engines of a
-//! roster once, as `Roster::ask` does. A roster is kept if only engines that aren't sound are dropped, the others stay in order,
-//! and no count falls.
+//! Laws for callers that ask a roster several times, and a law of walks that are in a cycle. A round is what one call of
+//! `Roster::ask` does. A roster is kept if only engines that aren't sound are dropped, the others stay in order, and no count
+//! falls.
 ghost use Rattle.std.specs.Prelude.{◌≡◌, ◌<◌, ◌+◌, ℕ, true, List, ◌∷◌};
 ghost use Rattle.dd_clause.specs.Clauses.{ClauseList};
 ghost use Rattle.dd_engines.specs.Rounds.{Seen, End, Round, Kept, FirstAsked, IsHeadAsked, one_was_asked};
@@ -28,17 +28,17 @@ pub fn first_asked_keeps()
     ensures { (before after : List Seen) → FirstAsked before after → Kept before after }
 {}
 
-/// Does nothing; its contract is the law that by `FirstAsked`, a sound first engine is not skipped: it is still the first, and it
-/// was asked in the meantime. An example shows that `FirstAsked` can be false: it is false for two sound engines whose counts
-/// have not changed.
+/// Does nothing; its contract is the law that if `FirstAsked` holds, a sound first engine is not skipped: it is still the
+/// first, and it was asked in the meantime. An example shows that `FirstAsked` can be false: it is false for two sound engines
+/// whose counts have not changed.
 pub fn first_is_not_skipped()
     ensures head { (old : Seen) (before after : List Seen) → old.sound ≡ true → FirstAsked (old ∷ before) after → IsHeadAsked old after }
     ensures pair { FirstAsked one_was_asked one_was_asked → ⊥ }
 {}
 
-/// Does nothing; its contract is a law of three times, where the roster is kept from the first time to the second. If the first
-/// engine was asked between the second time and the third, in the sense of `FirstAsked`, it was asked between the first time and
-/// the third too.
+/// Does nothing; its contract is a law about three points in time. Suppose that the roster is kept from the first to the
+/// second. If the first engine was asked between the second and the third, in the sense of `FirstAsked`, then the first engine
+/// was asked between the first and the third, in the same sense.
 pub fn first_asked_earlier()
     ensures { (before between after : List Seen) → Kept before between → FirstAsked between after → FirstAsked before after }
 {}

@@ -6,21 +6,24 @@
 //! contain it fall by one, and each clause whose count falls to one is looked at next. So the second pass finds nothing new, and
 //! the whole takes linear time.
 //!
-//! Before this, two passes without counts are tried, from the last clause to the first. They usually find just as much. In a
-//! clause list that is made from gates, the clauses of a gate come before the clauses that use the gate. So these passes go from
-//! the uses of a gate to the gate.
+//! Before this, a few passes without counts are made, in both directions. They usually find all that follows, and counts cost
+//! much more. In a clause list that is made from gates, the clauses of a gate come before the clauses that use the gate. So a
+//! pass from the last clause to the first goes from the uses of a gate to the gate.
 ghost use Rattle.std.specs.Prelude.{◌≡◌, [], List, All, true, length, IfOk, MatchOption};
 ghost use Rattle.dd_clause.specs.Clauses.{IsClauseInRange};
 ghost use Rattle.dd_clause.specs.declared.clause.Literal.{Literal};
 ghost use Rattle.dd_engines.specs.SingleSteps.{IsSingleStep};
-ghost use Rattle.dd_engines.specs.propagation.Following.{is_false_by, Follows, IsSettled, Looked, Followed, Passed};
+ghost use Rattle.dd_engines.specs.propagation.Following.{is_false_by, Conflicts, Follows, IsSettled, Looked, Followed, Passed, PassedFew};
 
 use crate::analysis::{Entry, needed_hints};
-use crate::chains::Chains;
+use crate::chains::{Chains, listed};
 use dd_clause::{Clause, Cnf, Literal};
 use dd_derivation::{FalseLiterals, Finding, Step, find};
 use dd_values::Items;
 use std::alloc::{AllocError, Global};
+
+/// The greatest number of rounds without counts. A round is a pass back and a pass forward.
+const FEW: usize = 2;
 
 /// What has followed so far: the values of the variables that have one, and the literals that became true, in order.
 #[derive(Drop)]
@@ -78,54 +81,6 @@ impl Trail {
         }
         Ok(finding)
     }
-
-    /// Gives the literal's variable the value that makes the literal true, but adds no entry.
-    fn set(&mut self, literal: Literal) {
-        let place = (literal.variable as usize).saturating_sub(1);
-        if let Some(value) = self.values.get_mut(place) {
-            *value = Some(literal.positive);
-        }
-    }
-}
-
-/// Looks at the clauses, from the last to the first, and makes the literals true that they force, but adds no entries. Stops and
-/// returns false at a clause that is falsified. Returns true if there is none.
-fn pass_back(trail: &mut Trail, clauses: &[Clause]) -> bool {
-    for number in (0..clauses.len()).rev() {
-        match find(trail, clauses[number].literals()) {
-            Finding::Falsified => return false,
-            Finding::Open => {}
-            Finding::Forced(literal) => trail.set(literal),
-        }
-    }
-    true
-}
-
-/// Whether no clause is falsified or forces a literal under the trail's values.
-fn is_settled(trail: &Trail, clauses: &[Clause]) -> bool
-    ensures { result ≡ true → All (IsSettled trail.now.values.items) clauses.now }
-{
-    for clause in clauses {
-        match find(trail, clause.literals()) {
-            Finding::Falsified => return false,
-            Finding::Open => {}
-            Finding::Forced(_) => return false,
-        }
-    }
-    true
-}
-
-/// Whether two passes, from the last clause to the first, find everything that follows, and no conflict. If so, no single step
-/// refutes the clauses.
-pub fn settles_soon(alloc: Global, cnf: &Cnf) -> Result<bool, AllocError>
-    ensures { IfOk result (λ settles. settles ≡ true → (step : _) → IsSingleStep cnf.now step → ⊥) }
-{
-    let mut trail = Trail::new(alloc, cnf.variables() as usize)?;
-    let clauses = cnf.clauses();
-    if !pass_back(&mut trail, clauses) || !pass_back(&mut trail, clauses) {
-        return Ok(false);
-    }
-    Ok(is_settled(&trail, clauses))
 }
 
 /// How far propagation got.
@@ -149,6 +104,15 @@ struct Counts<'a> {
 }
 
 impl<'a> Counts<'a> {
+    /// No counts. `chains` must be empty. So no clause ever waits, and a pass only looks at each clause once.
+    fn none(alloc: Global, chains: &'a Chains) -> Counts<'a> {
+        Counts {
+            chains,
+            left: Vec::new(alloc),
+            waiting: Vec::new(alloc),
+        }
+    }
+
     /// The counts while no literal is false.
     fn new(alloc: Global, cnf: &Cnf, chains: &'a Chains) -> Result<Counts<'a>, AllocError> {
         let mut left = vec![in alloc; 0usize; cnf.clauses().len()]?;
@@ -246,6 +210,100 @@ fn pass(counts: &mut Counts, trail: &mut Trail, clauses: &[Clause]) -> Result<Pr
     })
 }
 
+/// Looks at each clause, from the last to the first. Stops at a clause whose literals are all false, and returns its number.
+/// Returns `None` if it meets no such clause.
+fn pass_back(trail: &mut Trail, clauses: &[Clause]) -> Result<Option<usize>, AllocError>
+    requires in_range { All (IsClauseInRange (length trail.old.values.items)) clauses.now }
+    requires follows { Follows clauses.now trail.old.entries.items trail.old.values.items }
+    ensures passed { IfOk result (λ found. MatchOption found (Follows clauses.now trail.new.entries.items trail.new.values.items) (Conflicts clauses.now trail.new.entries.items)) }
+    ensures long { length trail.new.values.items ≡ length trail.old.values.items }
+{
+    for number in (0..clauses.len()).rev() {
+        match trail.look(clauses, number)? {
+            Finding::Falsified => return Ok(Some(number)),
+            Finding::Open => {}
+            Finding::Forced(_) => {}
+        }
+    }
+    Ok(None)
+}
+
+/// Makes a few passes without counts, in both directions.
+fn few_passes(alloc: Global, trail: &mut Trail, clauses: &[Clause]) -> Result<Progress, AllocError>
+    requires in_range { All (IsClauseInRange (length trail.old.values.items)) clauses.now }
+    requires follows { Follows clauses.now trail.old.entries.items trail.old.values.items }
+    ensures passed { IfOk result (PassedFew clauses.now trail.new.entries.items trail.new.values.items) }
+    ensures long { length trail.new.values.items ≡ length trail.old.values.items }
+{
+    if let Some(conflict) = pass_back(trail, clauses)? {
+        return Ok(Progress::Conflict(conflict));
+    }
+    let chains = Chains::new(alloc);
+    let mut counts = Counts::none(alloc, &chains);
+    for _ in 0..FEW {
+        if let Some(conflict) = pass_back(trail, clauses)? {
+            return Ok(Progress::Conflict(conflict));
+        }
+        match pass(&mut counts, trail, clauses)? {
+            Progress::Conflict(conflict) => return Ok(Progress::Conflict(conflict)),
+            Progress::Settled => return Ok(Progress::Settled),
+            Progress::More => {}
+        }
+    }
+    Ok(Progress::More)
+}
+
+/// Makes passes with counts until nothing changes. Returns the number of a clause whose literals are all false, or `None` if
+/// there is no such clause. `chains` are the chains of these clauses.
+fn all_passes(
+    alloc: Global,
+    cnf: &Cnf,
+    chains: &Chains,
+    trail: &mut Trail,
+) -> Result<Option<usize>, AllocError>
+    requires in_range { All (IsClauseInRange (length trail.old.values.items)) cnf.now.clauses }
+    requires follows { Follows cnf.now.clauses trail.old.entries.items trail.old.values.items }
+    ensures passed { IfOk result (λ found. MatchOption found (All (IsSettled trail.new.values.items) cnf.now.clauses) (Conflicts cnf.now.clauses trail.new.entries.items)) }
+    ensures long { length trail.new.values.items ≡ length trail.old.values.items }
+{
+    let clauses = cnf.clauses();
+    let mut counts = Counts::new(alloc, cnf, chains)?;
+    for entry in trail.entries.as_slice() {
+        counts.falsify(entry.literal.negation())?;
+    }
+    'passes: loop {
+        match pass(&mut counts, trail, clauses)? {
+            Progress::Conflict(conflict) => return Ok(Some(conflict)),
+            Progress::More => {}
+            Progress::Settled => return Ok(None),
+        }
+    }
+}
+
+/// Propagates to the end. Returns the number of a clause whose literals are all false, or `None` if there is no such clause.
+/// Chains are made only if a few passes don't reach the end. They reuse the memory of the chains in `room`, if there are any.
+fn propagate(
+    alloc: Global,
+    cnf: &Cnf,
+    room: &mut Option<Chains>,
+    trail: &mut Trail,
+) -> Result<Option<usize>, AllocError>
+    requires in_range { All (IsClauseInRange (length trail.old.values.items)) cnf.now.clauses }
+    requires follows { Follows cnf.now.clauses trail.old.entries.items trail.old.values.items }
+    ensures passed { IfOk result (λ found. MatchOption found (All (IsSettled trail.new.values.items) cnf.now.clauses) (Conflicts cnf.now.clauses trail.new.entries.items)) }
+    ensures long { length trail.new.values.items ≡ length trail.old.values.items }
+{
+    match few_passes(alloc, trail, cnf.clauses())? {
+        Progress::Conflict(conflict) => return Ok(Some(conflict)),
+        Progress::Settled => return Ok(None),
+        Progress::More => {}
+    }
+    let chains = listed(alloc, room, cnf)?;
+    let found = all_passes(alloc, cnf, &chains, trail);
+    *room = Some(chains);
+    found
+}
+
 /// The step with these hints and the empty clause.
 fn step_of(alloc: Global, hints: Vec<u64>) -> Result<Step, AllocError>
     ensures clause { IfOk result (λ step. step.clause ≡ []) }
@@ -259,22 +317,21 @@ fn step_of(alloc: Global, hints: Vec<u64>) -> Result<Step, AllocError>
     })
 }
 
-/// Returns a single step that refutes the clauses, or `None` if there is no such step. `chains` are the chains of these clauses.
-pub fn single_step(alloc: Global, cnf: &Cnf, chains: &Chains) -> Result<Option<Step>, AllocError>
+/// Returns a single step that refutes the clauses, or `None` if there is no such step. The memory of the chains in `room`, if
+/// there are any, is used for new ones.
+pub fn single_step(
+    alloc: Global,
+    cnf: &Cnf,
+    room: &mut Option<Chains>,
+) -> Result<Option<Step>, AllocError>
     ensures { IfOk result (λ found. MatchOption found ((step : _) → IsSingleStep cnf.now step → ⊥) (IsSingleStep cnf.now)) }
 {
-    let mut trail = Trail::new(alloc, cnf.variables() as usize)?;
-    let mut counts = Counts::new(alloc, cnf, chains)?;
     let clauses = cnf.clauses();
-    'passes: loop {
-        match pass(&mut counts, &mut trail, clauses)? {
-            Progress::Conflict(conflict) => {
-                let entries = trail.entries.as_slice();
-                let hints = needed_hints(alloc, clauses, trail.values.len(), entries, conflict)?;
-                return Ok(Some(step_of(alloc, hints)?));
-            }
-            Progress::More => {}
-            Progress::Settled => return Ok(None),
-        }
-    }
+    let mut trail = Trail::new(alloc, cnf.variables() as usize)?;
+    let Some(conflict) = propagate(alloc, cnf, room, &mut trail)? else {
+        return Ok(None);
+    };
+    let entries = trail.entries.as_slice();
+    let hints = needed_hints(alloc, clauses, trail.values.len(), entries, conflict)?;
+    Ok(Some(step_of(alloc, hints)?))
 }

@@ -5,15 +5,15 @@ ghost use Rattle.dd_engines.specs.Proposals.{IsRight, GivenAfter};
 ghost use Rattle.dd_engines.specs.Rounds.{RisesByOne};
 ghost use Rattle.dd_engines.specs.SingleSteps.{ProposesSingleStep};
 
-use crate::chains::{Chains, listed};
+use crate::chains::Chains;
 use crate::engine::{Engine, Proposal};
-use crate::propagation::{settles_soon, single_step};
+use crate::propagation::single_step;
 use crate::tally::Tally;
 use dd_clause::Cnf;
 use dd_values::Items;
 use std::alloc::{AllocError, Global};
 
-/// Proposes a refutation by a single step exactly if there is one, that is, if unit propagation from no assumptions ends in a
+/// Proposes a refutation by a single step exactly when there is one, that is, if unit propagation from no assumptions ends in a
 /// conflict. Otherwise it proposes nothing.
 #[derive(Drop)]
 pub struct Propagator {
@@ -53,13 +53,7 @@ impl Engine for Propagator {
         ensures exact { IfOk result (ProposesSingleStep cnf.now) }
     {
         self.tally.ask();
-        if settles_soon(alloc, cnf)? {
-            return Ok(Proposal::Nothing);
-        }
-        let chains = listed(alloc, &mut self.room, cnf)?;
-        let found = single_step(alloc, cnf, &chains);
-        self.room = Some(chains);
-        match found? {
+        match single_step(alloc, cnf, &mut self.room)? {
             Some(step) => {
                 let mut steps = Items::new(alloc);
                 steps.push(step)?;

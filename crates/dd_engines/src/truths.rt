@@ -51,7 +51,7 @@ impl Truths {
         self.counts[number] = self.counts[number].saturating_add(1);
     }
 
-    /// Counts one true literal fewer for the clause with this number. If none is left, the clause's block gets a mark.
+    /// Counts one fewer true literal for the clause with this number. If none is left, the clause's block gets a mark.
     fn lower_one(&mut self, number: usize)
         requires within { number < length self.old.counts.items }
         requires listed { IsListed self.old.counts.items self.old.marks.items self.old.first_block }

@@ -8,7 +8,7 @@ use Rattle.dd_certificate.specs.declared.answer.Listed.{Listed}
 use Rattle.dd_question.specs.Lists.{HasFewPatterns}
 use Rattle.dd_evidence.specs.{NodeLists.IsListedAfter, Lists.listed}
 
--- if the cells that the rule reads have few enough fillings, there is no fault of size
+-- if the cells that the rule reads have few enough fillings, the fault `Size` doesn't occur
 pub never_large : (r : LocalRule) (a : ℕ) → HasFewPatterns r → a < r.nodes → is_large r a ≡ true → ⊥
 never_large r a few below large =
     let many : 65536 < r.symbols ^ length (cells_at r a) = ltb-true 65536 (r.symbols ^ length (cells_at r a)) large in

@@ -1,6 +1,8 @@
-//! How answers write cells, configurations, and the patterns that a rule forbids: all of them, or only the minimal ones. A
-//! pattern gives symbols to cells that the rule reads at a node, that is, cells whose symbols its formula asks for there. A rule
-//! forbids a pattern if the rule is false at the node wherever these cells have these symbols.
+//! How answers write cells, configurations, and the patterns that a rule forbids. A pattern gives symbols to cells that the
+//! rule reads at a node, that is, cells whose symbols its formula asks for there. A rule forbids a pattern if the rule is false
+//! at the node wherever these cells have these symbols. An answer lists either all forbidden patterns that leave out no cell
+//! that is read, or minimal patterns. No further cell can be left out of a minimal pattern, and together the minimal patterns
+//! that are listed forbid exactly what the rule forbids.
 #![tactic(auto)]
 
 mod laws;

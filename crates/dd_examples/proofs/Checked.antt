@@ -1,4 +1,4 @@
--- How `are_right` judges the answers: it goes through them in order, and adds one answer at a time.
+-- How `are_right` judges the answers: it goes through them in order, one at a time.
 use Rattle.std.proofs.Common.{◌≡◌, inl, inr, ℕ, ◌+◌, ◌-◌, ◌<◌, ◌≤◌, List, length, get_or, Bool, true, false, ◌&&◌, Some, refl, sym, ◌∙◌, ap, subst, arith}
 use Rattle.std.proofs.lemmas.{Bool.cases_lt, Option.slice_get_read}
 use Rattle.std.specs.{Prelude.IsSomeAnd, Prelude.IsTrue, Prelude.◌↔◌, Prelude.◌≢◌, List.slice_get, declared.option.Option.Option}

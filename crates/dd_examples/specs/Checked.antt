@@ -47,7 +47,7 @@ pub record HasRefusedScript (bytes : List ℕ) (fault : ScriptFault) : Type 0 wh
   pub text : bytes ≡ output_text output
   pub refused : IsScriptRefusal output.script fault
 
--- Why bytes have no verdict: they are no output, their script is refused, or memory ran out.
+-- Why bytes have no verdict: they aren't the text of an output, their script is refused, or memory ran out.
 abbrev pub IsUnchecked : List ℕ → Unchecked → Type 0
 IsUnchecked bytes (unchecked.Output fault) = IsOutputFault bytes fault
 IsUnchecked bytes (unchecked.Script fault) = HasRefusedScript bytes fault

@@ -1,4 +1,4 @@
--- the first lines of the right answers to a script's queries
+-- the first lines of right answers to a script's queries
 pub mod Lines
 -- outputs whose answers are certificates; what a certificate claims is true
 pub mod Checked

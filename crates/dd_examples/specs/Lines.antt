@@ -19,8 +19,8 @@ pub record IsFollowed (IsFirst IsRest : List ℕ → Type 0) (text : List ℕ) :
   pub others : IsRest rest
   pub whole : text ≡ line ++ rest
 
--- the text has the first line of a right answer to each query, in order; the queries are numbered in order too, and the first has
--- the number `number`
+-- the text consists of the first lines of right answers to the queries, one for each query, in order; the queries are numbered in order too, and the
+-- first has the number `number`
 abbrev pub AreLines : Parts → ℕ → List Query → List ℕ → Type 0
 AreLines s number [] text = text ≡ []
 AreLines s number (q ∷ qs) text = IsFollowed (IsLine s number q) (AreLines s (number + 1) qs) text

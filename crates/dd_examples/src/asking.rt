@@ -72,8 +72,8 @@ fn rule_of(
     Ok(Rule::new(alloc, topology, &sets, formula)?)
 }
 
-/// The right answer to a question. It is an error if the question isn't well formed, or exceeds a limit. The roster is empty, so
-/// no engine is asked.
+/// A right answer to a question, or an error if the question isn't well formed or exceeds a limit. The roster has no engines, so
+/// none is asked before the search.
 fn answer_to(alloc: Global, question: Question, limits: &Limits) -> Result<Answer, Unasked>
     ensures { IfOk result (λ answer. IsRightTo limits.now (asked_of question.entry) answer) }
 {

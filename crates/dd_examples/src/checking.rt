@@ -14,7 +14,7 @@ use std::alloc::{AllocError, Global};
 /// Why an output isn't checked.
 #[derive(Debug, Drop)]
 pub enum Unchecked {
-    /// The bytes are no output, or memory ran out.
+    /// The bytes aren't the text of an output, or memory ran out.
     Output(CertificateFault),
     /// The bytes that the output gives as its script spell no script, or memory ran out.
     Script(ScriptFault),

@@ -12,7 +12,7 @@ use dd_query::Query;
 use dd_script::{Script, ScriptFault, ScriptKind, parse};
 use std::alloc::{AllocError, Global};
 
-/// The first line of the right answer to a query of the script. The query has the number `number`.
+/// The first line of a right answer to a query of the script. The query has the number `number`.
 fn line_of(
     alloc: Global,
     script: &Script,
@@ -28,7 +28,7 @@ fn line_of(
     answer_line(alloc, number, &found)
 }
 
-/// The first lines of the right answers to the queries of a script, in order.
+/// The first lines of right answers to the queries of a script, in order.
 #[tactic(auto, using(dd_values::specs::lemmas::Lists::contains_at, crate::proofs::Lines::line_next))]
 pub fn lines_of(alloc: Global, script: &Script) -> Result<Vec<u8>, AllocError>
     ensures { IfOk result (λ text. AreLines script.now 1 script.now.queries text.items) }
@@ -45,7 +45,7 @@ pub fn lines_of(alloc: Global, script: &Script) -> Result<Vec<u8>, AllocError>
     Ok(text)
 }
 
-/// The first lines of the right answers to the queries of the script that the bytes spell, or why the bytes are refused.
+/// The first lines of right answers to the queries of the script that the bytes spell, or why the bytes are refused.
 pub fn answered(alloc: Global, bytes: &[u8]) -> Result<Vec<u8>, ScriptFault>
     requires { length bytes.now ≤ most_script }
     ensures lines { IfOk result (λ text. (s : Parts) × Spells bytes.now s × AreLines s 1 s.queries text.items) }

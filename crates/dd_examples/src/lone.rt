@@ -2,7 +2,7 @@
 ghost use Rattle.std.specs.Prelude.{◌≡◌, true};
 ghost use Rattle.dd_expansion.specs.Placed.{is_flat};
 ghost use Rattle.dd_checker.specs.Certificates.{IsCertificate};
-ghost use Rattle.dd_checker.specs.Lifted.{is_yes, IsWhole, whole_look, IsNowhereAt};
+ghost use Rattle.dd_checker.specs.Lifted.{is_yes, IsWhole, whole_look, IsQueryNotAt};
 ghost use Rattle.dd_examples.specs.Lone.{lone};
 
 use dd_certificate::Answer;
@@ -31,14 +31,15 @@ impl Configuration for Lone {
 }
 
 /// Does nothing. Its contract says what a YES means for this configuration. The YES must be a certificate of the query with the
-/// number `query`, counted from 1. Such a query has a premise, which is a rule, and a goal, such as that another rule is false.
-/// If the configuration obeys the premise everywhere, the goal doesn't hold at `place`.
+/// number `query`, counted from 1. Such a query asks one box question, or two if it asks for an equality. A box question has a
+/// rule, the premise, and a goal: a property of a position, such as that another rule is broken there. If the configuration
+/// obeys the premise of one of these questions everywhere, the goal of this question doesn't hold at `place`.
 pub fn nowhere_in_lone(script: &Script, query: u32, answer: &Answer, place: &Position)
     requires certificate { IsCertificate script.now query answer.now }
     requires yes { is_yes answer.now ≡ true }
     requires whole { IsWhole script.now 1 lone }
     requires flat { is_flat script.now.known.setting.topology.dimension place.now ≡ true }
-    ensures { IsNowhereAt script.now query (whole_look script.now.known.setting.topology.dimension 1 lone) place.now }
+    ensures { IsQueryNotAt script.now query (whole_look script.now.known.setting.topology.dimension 1 lone) place.now }
 {
     lifted(script, query, answer, &Lone, place);
 }

@@ -1,7 +1,8 @@
-//! Examples of how the crates are used. Without arguments, this program reads an output and writes it again. With `check` it
-//! reads an output and says whether each answer is a certificate. With `answer` it reads a script and writes the first line of
-//! each answer. With `squares` it says whether the chessboard is a configuration of hard squares, in which no two 1s are side by
-//! side or one above the other.
+//! Examples of how the crates are used. Without arguments, this program reads an output of diddy, which has a script and the
+//! answers to its queries, and writes it again. With `check` it reads an output and says whether each query has exactly one
+//! answer and each answer is a certificate. With `answer` it reads a script and writes the first line of each answer. With
+//! `squares` it says whether the chessboard is a configuration of hard squares, in which no two 1s are side by side or one
+//! above the other.
 #![tactic(auto)]
 
 mod asking;

@@ -1,4 +1,4 @@
-//! What the program does for each word.
+//! What the program does for each word that may follow its name, and without one.
 
 use crate::asking::chessboard_answer;
 use crate::checking::{Unchecked, checked};
@@ -13,7 +13,7 @@ use dd_script::{ScriptFault, ScriptKind};
 use dd_values::{Limits, MOST_SCRIPT};
 use std::alloc::Global;
 
-/// Limits that are in range. Whether a configuration obeys a rule takes no search, so their values don't matter.
+/// Limits that are in range. It takes no search to tell whether a configuration obeys a rule, so their values don't matter.
 const LIMITS: Limits = Limits {
     radius: 2,
     period: 2,
@@ -27,7 +27,7 @@ pub enum Task {
     Rewrite,
     /// Read a script, and write the first line of the answer to each query.
     Answer,
-    /// Read an output, and say whether each of its answers is a certificate.
+    /// Read an output, and say whether each query has exactly one answer and each answer is a certificate.
     Check,
     /// Say whether the chessboard is a configuration of hard squares.
     Squares,
@@ -42,7 +42,7 @@ pub enum Fault {
     Input,
     /// The input spells no script, or it is an output whose script has a fault.
     Script,
-    /// The bytes are no output.
+    /// The bytes aren't the text of an output.
     Output,
     /// Memory ran out.
     Memory,

@@ -26,7 +26,7 @@ any_of es = roll-Expanded (Expanded-F.Or es)
 abbrev pub both_alike : Expanded → Expanded → Expanded
 both_alike e f = roll-Expanded (Expanded-F.Iff e f)
 
--- an atom about one cell, or about two cells; the constant false if a cell is missing
+-- the expansion of an atom about one cell, or about two cells; the constant false if a cell is missing
 abbrev pub at_cell : (Cell → Expanded) → Option Cell → Expanded
 at_cell e None = constant false
 at_cell e (Some c) = e c

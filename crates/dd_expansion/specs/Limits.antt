@@ -22,8 +22,8 @@ most_nested = 64
 abbrev pub term_fits : Grid → ℕ → Term → Bool
 term_fits g scope t = nat_lt t.variable scope && nat_le (length t.moves) most_moves && list_all (λ l. nat_lt l (length g.labels)) t.moves
 
--- `ball_fits`: the ball is round a variable in scope, and its radius is within the limit. `balls_fit`: this holds of each of a quantifier's balls,
--- and their number is within the limit
+-- `ball_fits`: the ball's centre is the cell of a variable in scope, and its radius is within the limit. `balls_fit`: this holds of each of a
+-- quantifier's balls, and their number is within the limit
 abbrev pub ball_fits : ℕ → BallOf → Bool
 ball_fits scope b = nat_lt b.variable scope && nat_le b.radius widest_radius
 

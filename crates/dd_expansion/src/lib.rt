@@ -1,8 +1,8 @@
 //! First-order formulas over the cells of a topology, and their expansions. The expansion of a formula at a cell says the same
-//! without variables: each quantifier is written out over the cells of its balls. (The ball of radius r round a cell has the
-//! cells that are at most r edges away.) The size of an expansion is the number of its instances: the expansion itself, its
-//! parts, their parts, and so on. Cells are listed in cell order: by z, then y, then x, then the node. A cell is in range if
-//! each coordinate of its position is at most 2^20 in absolute value.
+//! without variables: each quantifier is written out over the cells of its balls. (The ball of radius r round a cell consists
+//! of the cells that are at most r edges away.) The size of an expansion is the number of its instances: the expansion itself,
+//! its parts, their parts, and so on. Cells are listed in cell order: by z, then y, then x, then the node. A cell is in range
+//! if each coordinate of its position is at most 2^20 in absolute value.
 #![tactic(auto, using(std::proofs::lemmas::Grind::common_steps))]
 
 mod atoms;

@@ -22,8 +22,8 @@ fn is_allowed(context: &Context, node: u32, name: Name) -> bool
     symbol.is_some_and(|symbol| setting.sets.allows(node, symbol))
 }
 
-/// Notes each name, unless it is that of a symbol that the node of its cell allows. The symbols of a position are listed
-/// together, in the order of its nodes.
+/// Notes each name, unless it names a symbol that the node of its cell allows. The symbols of a position are listed together,
+/// in the order of its nodes.
 fn symbols(context: &Context, written: &[Name], found: &mut Found)
     requires { HasSets context.now.known }
     ensures { found.new ≡ noted found.old (symbol_faults context.now 0 written.now) }
@@ -46,7 +46,7 @@ fn product(text: &Text, entries: &[Entry]) -> u32
     product
 }
 
-/// The number of cells of a fundamental box with these periods, cut off at `u32::MAX`.
+/// The number of cells of a fundamental box, the box that repeats, with these periods. It is cut off at `u32::MAX`.
 fn cells_of(context: &Context, periods: &Vector) -> u32
     ensures { result ≡ min (cells_of context.now periods.now) 4294967295 }
 {
@@ -107,8 +107,8 @@ fn shear_fits(dimension: u32, shear: &Option<Vector>) -> bool
 }
 
 /// Whether there is exactly one period for each axis, the shear fits, and there is exactly one symbol for each cell of the
-/// fundamental box, the box that repeats. `count` is the number of symbols. It is below `u32::MAX`, where the number of cells is
-/// cut off. So a number of cells that was cut off never equals it.
+/// fundamental box. `count` is the number of symbols. It is below `u32::MAX`, where the number of cells is cut off. So a number
+/// of cells that was cut off never equals it.
 fn box_fits(context: &Context, periods: &Vector, shear: &Option<Vector>, count: usize) -> bool
     requires { count < 4294967295 }
     ensures { result ≡ box_fits context.now periods.now shear.now count }

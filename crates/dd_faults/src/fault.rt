@@ -35,13 +35,14 @@ pub enum Limit {
     Radius,
     /// A quantifier ranges over at most `MOST_BALLS` balls.
     Balls,
-    /// At each node, a rule or an automaton has at most 20,000 instances. These are the constants, leaves and connectives of its
-    /// expansions, in which the quantifiers are written out.
+    /// At each node, a rule or an automaton has at most 20,000 instances. Those of a rule are the constants, leaves and
+    /// connectives of its expansion, in which the quantifiers are written out. `Automaton::instances` of `dd_formula` says what
+    /// those of an automaton are.
     Instances,
     /// A rule or an automaton reads only cells that are at most 16 away along each axis.
     Reach,
-    /// Compositions of automata are nested at most 64 deep. So is the formula that a query about images or a conjugacy makes of
-    /// its target, the rule that the images must obey.
+    /// Compositions of automata are nested at most 64 deep. In a query about images or about a conjugacy, the images must obey
+    /// a rule, the target. The formula that says that an image obeys it and has allowed symbols is at most 64 deep too.
     Depth,
     /// A configuration has at most `MOST_IN_BOX` symbols, and its shear is less than its first period. A torus has at most
     /// `MOST_IN_BOX` cells, and none of its periods is 0. A strip's periods are from 1 to `LONGEST_STRIP`.
@@ -51,11 +52,11 @@ pub enum Limit {
     /// If a query asks which patterns a rule forbids, then at each node the cells that the rule reads have at most
     /// `MOST_PATTERNS` fillings.
     Patterns,
-    /// The transfer graph of a strip has at most `MOST_STATES` states, which are fillings of successive slices. It has at most
-    /// `MOST_LONGER_STATES` windows, which have one more slice.
+    /// The transfer graph of a strip has at most `MOST_STATES` states and at most `MOST_WINDOWS` windows. A state is a
+    /// filling of successive slices. A window is a state followed by one more slice.
     States,
-    /// A box question takes at most `MOST_CLAUSES` clauses on its largest box or torus. So does a query for the least weight on a
-    /// torus.
+    /// A box question asks whether a goal occurs in no configuration that obeys a rule. It takes at most `MOST_CLAUSES` clauses
+    /// on its largest box or torus. A query for the least weight on a torus takes at most as many.
     Clauses,
 }
 
@@ -77,7 +78,7 @@ pub enum Fault {
 /// The first fault of the lowest rank among those noted so far, if there are any.
 pub(crate) type Found = Option<Fault>;
 
-/// The result of noting faults. It fails only if memory ran out.
+/// The result of noting faults. It is an error only if memory ran out, or if a list is longer than any script can have.
 pub(crate) type Done = Result<(), AllocError>;
 
 /// Why a command is refused.

@@ -39,7 +39,7 @@ impl Notes<Edge> for Context {
     }
 }
 
-/// Notes a name that isn't that of a symbol.
+/// Notes a name that isn't the name of a symbol.
 impl Notes<Name> for Context {
     ghost faults = { λ x. missing x.text x.known.setting.symbols };
 

@@ -1,7 +1,7 @@
 //! The faults of well-formed commands: what can be wrong with a command that follows the grammar. The faults of a command form a
 //! list, in the order of its text. Each has a rank. Unknown names have the lowest rank, then come repetitions, then wrong
-//! dimensions and numbers of items, then exceeded limits, in the order of the limits. A command with faults is refused for one of
-//! them: the first in the list among those of the lowest rank.
+//! dimensions and wrong numbers of items, then exceeded limits, in the order of the limits. A command with faults is refused
+//! for one of them: the first in the list among those of the lowest rank.
 #![tactic(auto, using(crate::proofs::Noting::faults))]
 
 mod atoms;

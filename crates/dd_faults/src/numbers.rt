@@ -71,12 +71,12 @@ pub(crate) fn is_far(text: &Text, vector: &Vector) -> bool
     entries.any(|entry| entry_value(text, *entry) > FARTHEST)
 }
 
-/// A context in which a number is a radius or a margin, and a vector gives the periods of a strip. In a plain `Context`, a number
-/// is a weight, and a vector is one of a discharge.
+/// A context in which a number is a radius or a margin, and a vector gives the periods of a strip. In a plain `Context`, a
+/// number is a weight, and a vector belongs to a discharge.
 #[derive(Clone, Copy)]
 pub(crate) struct Asked<'a>(pub(crate) &'a Context);
 
-/// Notes a radius or a margin of a discharge that is too large.
+/// Notes a radius or a margin that is too large.
 impl<'a> Notes<Number> for Asked<'a> {
     ghost faults = { λ asked. radius_faults asked.0.now };
 

@@ -1,4 +1,4 @@
--- The extensions of the empty list of symbols are all breaking fillings.
+-- The extensions of the empty list of symbols are exactly the breaking fillings, each once and in order.
 use Rattle.std.proofs.Common.{◌≡◌, ◌<◌, ◌+◌, ℕ, zero, suc, Bool, true, false, cond, List, [], ◌∷◌, ◌++◌, length, get_or, refl, sym, ◌∙◌, ap, subst, inl, inr, arith}
 use Rattle.std.proofs.lemmas.Bool.{and_parts, and_from, false≢true}
 use Rattle.std.proofs.lemmas.List.{append_assoc, append-nil, Elements.All-get_or}

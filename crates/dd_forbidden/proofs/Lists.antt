@@ -1,4 +1,4 @@
--- Members of lists, and lists that ascend strictly.
+-- Members of ranges, and the lexicographic order of lists.
 use Rattle.std.proofs.Common.{◌≡◌, ◌<◌, ◌≤◌, ◌+◌, ℕ, zero, suc, List, [], ◌∷◌, ◌++◌, refl, sym, inl, inr, arith}
 use Rattle.std.specs.{List.Contains, List.range_with_len, Ordering.nat_cmp, Cmp.nat_cmp_is, Cmp.Lexicographic.slice_cmp}
 use Rattle.std.specs.declared.cmp.Ordering.TheVariants.{Less, Equal}

@@ -25,7 +25,7 @@ settles_on r a ss s b h more below =
 settled_here : (r : LocalRule) (a : ℕ) (ss : List ℕ) (b : Bool) → AreSymbols r ss → Settles r a ss b → is_true_at_origin r a ss ≡ b
 settled_here r a ss b below h = ap (is_true_at_origin r a) (sym (append-nil ss)) ∙ h [] (subst (AreSymbols r) (sym (append-nil ss)) below)
 
--- functions that agree on all numbers of a range give the same concatenated list over it
+-- if two functions agree on all numbers of a range, the concatenations of their lists over the range are equal
 agree : (f g : ℕ → List (List ℕ)) (k n most : ℕ) → k + n ≤ most → ((s : ℕ) → s < most → f s ≡ g s) → flat_map f (range_with_len k n) ≡ flat_map g (range_with_len k n)
 agree f g k zero most within same = refl
 agree f g k (suc n) most within same =

@@ -1,6 +1,6 @@
-//! The breaking fillings of a rule at a node of the origin. A rule is a formula about a cell and the cells near it. It reads
-//! finitely many cells, and may allow only some symbols at a node. A breaking filling gives allowed symbols to the cells that
-//! the rule reads, and the rule is false under these symbols.
+//! The breaking fillings of a rule at a node of the origin. A cell is a position together with one of its nodes. A rule is a
+//! formula about a cell and the cells near it. It reads finitely many cells, and may allow only some symbols at a node. A
+//! breaking filling gives allowed symbols to the cells that the rule reads, and the rule is false under these symbols.
 #![tactic(auto)]
 
 mod breaking;

@@ -1,6 +1,7 @@
-//! Whether automata are well formed. The test copies the automaton, from its rules upwards. It copies cases only if they fit the
-//! numbers that all rules must have. The parts of the copy are made by `Automaton::given` and `Automaton::composed`, which refuse
-//! a part that exceeds a limit. So, unless memory runs out, a copy is made exactly if the automaton is well formed.
+//! Whether automata are well formed. The test copies the automaton, from its rules upwards. All rules must have a given
+//! dimension, number of nodes and number of symbols, and cases are copied only if they fit these. The parts of the copy are
+//! made by `Automaton::given` and `Automaton::composed`, which refuse a part that exceeds a limit. So, unless memory runs out,
+//! a copy is made exactly when the automaton is well formed.
 ghost use Rattle.std.specs.Prelude.{◌≡◌, ◌≢◌, ◌↔◌, ◌&&◌, IsTrue, IfOk, None, nat_lt};
 ghost use Rattle.std.specs.List.{list_all};
 ghost use Rattle.dd_formula.specs.Automata.{IsAutomaton, cases_fit, rule_has};

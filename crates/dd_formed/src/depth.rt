@@ -1,5 +1,5 @@
 //! Whether formulas are within the limit on depth. The depth of a formula is the greatest number of connectives and quantifiers
-//! around an atom. A conjunction or disjunction of fewer than two parts isn't counted.
+//! that are nested in one another. A conjunction or disjunction of fewer than two parts isn't counted.
 ghost use Rattle.std.specs.Prelude.{◌≡◌, ◌≤◌, ◌↔◌, IsTrue, nat_le, map};
 ghost use Rattle.std.specs.List.{list_all};
 ghost use Rattle.dd_expansion.specs.Limits.{depth, list_depth, most_nested};

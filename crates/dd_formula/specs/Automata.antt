@@ -32,7 +32,7 @@ pub record CommonNumbers : Type 0 where
   -- the size of the alphabet
   pub symbols : ℕ
 
--- the counts of an automaton
+-- the counts of an automaton: the cells that it reads, the number of its instances, and its depth
 pub record Counted : Type 0 where
   -- the cells that it reads at a node of the origin; some may occur more than once
   pub reads : ℕ → List Cell

@@ -31,7 +31,8 @@ by_cases g s cases otherwise = v.Given (record { cases = map (case_over g s) cas
 abbrev pub counts_over : Grid → SymbolSets → List (Formula × ℕ) → Counted
 counts_over g s cases = counted_step (Automaton-F.Given (record { cases = map (case_over g s) cases; otherwise = 0 }))
 
--- whether the fault is right: there are too many instances at some node, or else a cell that is read lies too far away; or memory ran out
+-- Whether the fault is right. `Instances` is right if there are too many instances at some node. Otherwise `Reach` is right if a cell that is read
+-- lies too far away. `Depth` is never right. `Memory` claims nothing about the automaton.
 abbrev pub IsCasesRefusal : ℕ → Counted → RuleFault → Type 0
 IsCasesRefusal n f Instances = is_few n f ≡ false
 IsCasesRefusal n f Reach = PassesInstances n f × (is_short n f ≡ false)

@@ -42,8 +42,8 @@ PassesReach n f = PassesInstances n f × (is_short n f ≡ true)
 abbrev pub PassesDepth : ℕ → Counted → Type 0
 PassesDepth n f = PassesReach n f × (is_shallow f ≡ true)
 
--- whether the fault is right: there are too many instances at some node, or else a cell that is read lies too far away, or else compositions are
--- nested too deep; or memory ran out
+-- Whether the fault is right. `Instances` is right if there are too many instances at some node. Otherwise `Reach` is right if a cell that is read
+-- lies too far away. Otherwise `Depth` is right if compositions are nested too deep. `Memory` claims nothing about the composition.
 abbrev pub IsCompositionFault : ℕ → Counted → RuleFault → Type 0
 IsCompositionFault n f Instances = is_few n f ≡ false
 IsCompositionFault n f Reach = PassesInstances n f × (is_short n f ≡ false)

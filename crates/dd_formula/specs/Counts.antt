@@ -1,4 +1,5 @@
--- How many clauses encode a question about a rule, and counts that are cut off at a limit.
+-- How many clauses encode a question about a rule, and counts that are cut off at a limit. The gates of a rule at a node are the constants,
+-- conjunctions, disjunctions and equivalences of its expansion there.
 use Rattle.std.specs.Prelude.{ℕ, ◌+◌, ◌-◌, ◌*◌, ◌/◌, ◌^◌, min, max, not, List, map, length}
 use Rattle.std.specs.List.{filter, range_with_len}
 use Rattle.dd_expansion.specs.Leaves.{clause_count, total}

@@ -1,5 +1,5 @@
--- Local rules. A rule is a formula over a topology and the alphabets of its nodes. It is evaluated under a look-up (`Look`), which gives symbols to
--- cells, perhaps not to all.
+-- Local rules. A rule is a formula over a topology and an alphabet. Each node allows some symbols of the alphabet. The rule is evaluated under a
+-- look-up (`Look`), which gives symbols to cells, perhaps not to all.
 use Rattle.std.specs.Prelude.{ℕ, zero, suc, Bool, ◌<◌, ◌≤◌, ◌≡◌, true, false, is_some, nat_le, nat_lt, List, [], ◌∷◌, ◌++◌}
 use Rattle.std.specs.List.{list_all}
 use Rattle.dd_lattice.specs.{InOrder.in_order, declared.position.Cell.Cell}
@@ -27,7 +27,7 @@ kept_rule d nodes s edges f = record { dimension = d; nodes = nodes; symbols = s
 abbrev pub local_rule : Grid → SymbolSets → Formula → LocalRule
 local_rule g s f = kept_rule g.dimension g.nodes s g.edges f
 
--- the alphabets of a rule's nodes
+-- the alphabet of a rule, and the symbols that each node allows
 abbrev pub sets_of : LocalRule → SymbolSets
 sets_of r = symbol_sets r.symbols r.allowed
 
@@ -60,15 +60,15 @@ at_nodes f (suc n) = at_nodes f n ++ f n ∷ []
 abbrev pub cells_at : LocalRule → ℕ → List Cell
 cells_at r a = in_order (reads_at r a)
 
--- the limits on rules and automata: at each node they have at most this many instances
+-- the limit on instances: at each node, rules and automata have at most this many
 abbrev pub most_instances : ℕ
 most_instances = 20000
 
--- each cell that rules and automata read at the origin lies at most this far away, along each axis
+-- the limit on reach: each cell that rules and automata read at the origin lies at most this far away, along each axis
 abbrev pub most_reach : ℕ
 most_reach = 16
 
--- compositions are nested at most this deep
+-- the limit on depth: compositions are nested at most this deep
 abbrev pub most_depth : ℕ
 most_depth = 64
 

@@ -1,4 +1,5 @@
--- How many clauses encode the value of an automaton.
+-- How many clauses encode the value of an automaton. The value is computed by gates over signals. A signal is a variable of a circuit, or its
+-- negation.
 use Rattle.std.specs.{Prelude.ℕ, Prelude.◌+◌, Prelude.◌*◌, Prelude.List, Prelude.map, Prelude.length, List.range_with_len}
 use Rattle.dd_lattice.specs.InOrder.{in_order}
 use Rattle.dd_expansion.specs.Leaves.{clause_count, total}
@@ -16,8 +17,8 @@ gate_clause_count k = k + 1
 abbrev pub choice_clauses : ℕ → ℕ
 choice_clauses m = total (map (λ i. gate_clause_count (i + 1)) (range_with_len 0 m)) + gate_clause_count m
 
--- The number of clauses of the gates of the symbols. Each of n symbols has a gate over the cases that give it; here the default
--- counts as a case. Each of these m + 1 cases gives one symbol, so together the gates are over m + 1 signals.
+-- The number of clauses of the gates of n symbols, for m cases. Each symbol has a gate over the cases that give it; here the
+-- default counts as one more case. Each of these m + 1 cases gives one symbol, so together the gates are over m + 1 signals.
 abbrev pub giving_clauses : ℕ → ℕ → ℕ
 giving_clauses n m = (m + 1) + n
 

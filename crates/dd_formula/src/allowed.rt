@@ -1,4 +1,4 @@
-//! Whether a periodic configuration fits a rule, and whether the rule's nodes allow its symbols.
+//! Whether a periodic configuration fits a rule, and whether the rule's nodes allow the configuration's symbols.
 ghost use Rattle.std.specs.Prelude.{◌<◌, ◌↔◌, IsTrue, All};
 ghost use Rattle.dd_formula.specs.Allowed.{HasAllowed};
 ghost use Rattle.dd_formula.specs.Living.{Fits};
@@ -22,7 +22,7 @@ pub fn fits(rule: &Rule, configuration: &Periodic) -> bool
         && are_below(configuration.symbols(), rule.symbols())
 }
 
-/// Whether each symbol of the configuration is one that its node allows.
+/// Whether each cell of the configuration has a symbol that the cell's node allows.
 pub fn has_allowed(rule: &Rule, configuration: &Periodic) -> bool
     requires { Fits rule.now configuration.now }
     ensures { IsTrue result ↔ HasAllowed rule.now configuration.now }

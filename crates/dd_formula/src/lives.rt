@@ -1,4 +1,5 @@
-//! Whether a periodic configuration lives in a rule's subshift, that is, whether the rule is true at each of its cells.
+//! Whether a periodic configuration lives in a rule's subshift, that is, whether the rule is true at each of the
+//! configuration's cells.
 ghost use Rattle.dd_formula.specs.Living.{Fits, IsMembership};
 
 use crate::rule::Rule;

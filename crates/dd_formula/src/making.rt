@@ -19,7 +19,7 @@ use std::alloc::{AllocError, Global};
 /// The greatest number of instances that a rule or an automaton may have at a node. The instances of an expansion are its
 /// constants, its leaves and its connectives.
 pub(crate) const MOST_INSTANCES: u32 = 20_000;
-/// How far away a cell that is read at the origin may lie, along each axis.
+/// How far from the origin, along each axis, a rule or an automaton may read cells when it is evaluated there.
 const MOST_REACH: u32 = 16;
 
 /// What a rule stores besides its formula, its dimension and its number of nodes.

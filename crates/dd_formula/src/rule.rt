@@ -21,10 +21,11 @@ use dd_values::Items;
 use std::alloc::{AllocError, Global};
 use std::marker::Model;
 
-/// A local rule. A configuration obeys it if the rule's formula is true at every cell. A cell is a position together with one of
-/// 1 to 4 nodes, and it has one of 1 to 16 symbols. At each node the rule has an expansion: its formula without variables. The
-/// expansion is a tree of constants, leaves and connectives. These are called its instances, and there are at most 20,000 of
-/// them. The rule reads no cell that lies more than 16 away along an axis.
+/// A local rule. A configuration obeys it if the rule's formula is true at every cell. Each position has 1 to 4 nodes, and a
+/// cell is a position together with one of its nodes. Each cell has a symbol of the alphabet, which has 1 to 16 symbols. At
+/// each node the rule has an expansion: its formula without variables. The expansion is a tree of constants, leaves and
+/// connectives, which are called its instances. There are at most 20,000 of them. A leaf says that a cell has a certain symbol.
+/// The rule reads no cell that lies more than 16 away along an axis.
 #[derive(Debug, Drop)]
 pub struct Rule {
     dim: u32,
@@ -169,7 +170,8 @@ impl Rule {
         self.reads[node as usize].as_slice()
     }
 
-    /// The number of clauses that encode the gates of the expansion at a node.
+    /// The number of clauses that encode the gates of the expansion at a node. The gates are the expansion's constants,
+    /// conjunctions, disjunctions and equivalences.
     pub fn clause_count(&self, node: u32) -> u64
         requires { node < self.now.nodes }
         ensures { result ≡ clause_count (expansion_at self.now node) }

@@ -79,7 +79,7 @@ less k x y z e p q = subst (λ (n : ℕ). k ∣ n) e (dvd-sub k q p)
 more : (k x y z : ℕ) → y + x ≡ z → k ∣ x → k ∣ y → k ∣ z
 more k x y z e p q = subst (λ (n : ℕ). k ∣ n) e (dvd-add k q p)
 
--- a number that divides a sum of two numbers and one of them also divides the other
+-- if a number divides the sum of two numbers, and one of the two, it also divides the other
 part : (k : ℕ) (s t : ℤ) → k ∣ unsigned_abs s → k ∣ unsigned_abs (s +ℤ t) → k ∣ unsigned_abs t
 part k (pos a) (pos b) p q = less k a (unsigned_abs (pos a +ℤ pos b)) b (omega (arith, ints)) p q
 part k (negsuc a) (negsuc b) p q =

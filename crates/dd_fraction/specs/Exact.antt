@@ -12,7 +12,7 @@ pub record Exact : Type 0 where
 abbrev pub den_of : Exact → ℕ
 den_of a = max 1 a.den
 
--- n over d in lowest terms: both are divided by their greatest common divisor; 1 stands in place of a d that is 0
+-- n over d in lowest terms: both are divided by their greatest common divisor; if d is 0, it is replaced by 1
 unfoldable pub lowest : ℤ → ℕ → Exact
 lowest n d =
     let e = max 1 d in

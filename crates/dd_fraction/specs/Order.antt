@@ -1,4 +1,4 @@
--- The order of exact fractions, by cross products: n / d is at most m / e exactly if n · e is at most m · d.
+-- The order of exact fractions, by cross products: n / d is at most m / e exactly when n · e is at most m · d.
 use Rattle.std.specs.{declared.cmp.Ordering.Ordering, Ordering.int_cmp}
 use lib.IntN.{pos, ◌*ℤ◌}
 use lib.Signed.{◌≤ℤ◌, ◌<ℤ◌}

@@ -1,4 +1,4 @@
-//! Fractions in lowest terms, and their arithmetic. Contracts see the exact fraction.
+//! Fractions in lowest terms, and their arithmetic. Contracts see a `Fraction` as an `Exact`.
 ghost use Rattle.std.specs.Prelude.{◌≡◌, ◌≢◌, ◌<◌, ◌^◌, ◌↔◌, Some, IsTrue, IfSome};
 ghost use Rattle.std.specs.Int.RustNames.{unsigned_abs};
 ghost use lib.IntN.{pos};
@@ -161,7 +161,7 @@ impl Fraction {
         Some(reduced(num, den))
     }
 
-    /// `self - factor * other`. `None` if the product is `None`, or if its difference from `self` is.
+    /// `self - factor * other`. `None` if `factor * other` is `None`, or if the difference is.
     #[inline(always)]
     pub fn sub_product(&self, factor: &Fraction, other: &Fraction) -> Option<Fraction>
         ensures { result ≡ checked_less_product self.now factor.now other.now }
@@ -172,7 +172,7 @@ impl Fraction {
         }
     }
 
-    /// `self - factor * other`, or `None` if one of the numbers does not fit 16 bits.
+    /// `self - factor * other`, or `None` if one of the numbers does not fit in 16 bits.
     #[inline(always)]
     fn small_less_product(&self, factor: &Fraction, other: &Fraction) -> Option<Fraction>
         ensures { IfSome result (λ d. Some d ≡ checked_less_product self.now factor.now other.now) }

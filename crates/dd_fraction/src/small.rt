@@ -1,4 +1,4 @@
-//! Fractions whose numerator and denominator fit 16 bits. When `a - q * b` is computed for such fractions, each intermediate
+//! Fractions whose numerator and denominator fit in 16 bits. When `a - q * b` is computed for such fractions, each intermediate
 //! number is a machine word, so none is too large.
 ghost use Rattle.std.specs.Prelude.{◌≡◌, ◌<◌, Some, IfSome};
 ghost use Rattle.dd_fraction.specs.Checked.{checked_less_product};
@@ -6,7 +6,7 @@ ghost use Rattle.dd_fraction.specs.Checked.{checked_less_product};
 use crate::fraction::{Fraction, reduced_words};
 use std::marker::Model;
 
-/// A fraction whose numerator and denominator fit 16 bits.
+/// A fraction whose numerator and denominator fit in 16 bits.
 #[derive(Clone, Copy)]
 pub struct Small {
     num: i16,
@@ -27,7 +27,7 @@ impl Model for Small {
 }
 
 impl Small {
-    /// `num / den`, or `None` if one of the two does not fit 16 bits.
+    /// `num / den`, or `None` if one of the two does not fit in 16 bits.
     #[inline(always)]
     pub fn of(num: i128, den: u128) -> Option<Small>
         requires { 0 < den }

@@ -2,7 +2,7 @@
 ghost use Rattle.std.specs.Prelude.{◌≡◌, ◌↔◌, true, IsTrue, IfOk};
 ghost use Rattle.dd_expansion.specs.Placed.{is_flat};
 ghost use Rattle.dd_checker.specs.Certificates.{HasQuery};
-ghost use Rattle.dd_checker.specs.Lifted.{is_yes, whole_look, IsWhole, IsNowhereAt};
+ghost use Rattle.dd_checker.specs.Lifted.{is_yes, whole_look, IsWhole, IsQueryNotAt};
 ghost use Rattle.dd_infinite.specs.Functions.{IsExclusion};
 
 use dd_certificate::Answer;
@@ -33,7 +33,7 @@ fn is_yes(answer: &Answer) -> bool
     matches!(answer, Answer::Yes { .. } | Answer::YesBoth { .. })
 }
 
-/// Whether the answer excludes the query's goal at the position `place` of this configuration. This is so exactly if:
+/// Whether the answer excludes the query's goal at the position `place` of this configuration. This is so exactly when:
 /// - the script has a query with the number `query`, counted from 1;
 /// - `place` is a position of Z^d;
 /// - the answer is YES, and the check accepts it for this query.
@@ -54,7 +54,7 @@ pub fn excludes<C: Configuration>(
 ) -> Result<bool, AllocError>
     requires { IsWhole script.now (C.nodes configuration.now) (C.symbol_of configuration.now) }
     ensures exact { IfOk result (λ excluded. IsTrue excluded ↔ IsExclusion script.now query answer.now place.now) }
-    ensures nowhere { IfOk result (λ excluded. excluded ≡ true → IsNowhereAt script.now query
+    ensures nowhere { IfOk result (λ excluded. excluded ≡ true → IsQueryNotAt script.now query
         (whole_look script.now.known.setting.topology.dimension (C.nodes configuration.now) (C.symbol_of configuration.now)) place.now) }
 {
     if !has_query(script, query) {

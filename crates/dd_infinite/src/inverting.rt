@@ -38,7 +38,7 @@ fn is_conjugate(answer: &Answer) -> bool
 }
 
 /// Whether the answer shows that the query's automata are inverse maps at the position `place` of this configuration. This is so
-/// exactly if:
+/// exactly when:
 /// - the script has a query with the number `query`, counted from 1, and it asks about a conjugacy;
 /// - `place` is a position of Z^d;
 /// - the answer is CONJUGATE, and the check accepts it for this query.

@@ -4,5 +4,5 @@ pub mod Tree
 pub mod Limits
 -- the dimension of a script's lattice, and the names that a word of a query may be
 pub mod Known
--- what always holds of what a script has defined
+-- the facts that always hold for what a script has defined
 pub mod Sound

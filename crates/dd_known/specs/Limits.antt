@@ -41,7 +41,7 @@ most_in_box = 65536
 abbrev pub most_vectors : ℕ
 most_vectors = 16
 
--- the greatest absolute value of an entry, in the offset of an edge or in a vector of a discharge
+-- the greatest absolute value of an entry of an edge's offset or of a vector of a discharge
 abbrev pub farthest : ℕ
 farthest = 4
 

@@ -1,4 +1,4 @@
--- What always holds of what a script has defined.
+-- The facts that always hold for what a script has defined.
 use Rattle.std.specs.{Prelude.ℕ, Prelude.◌≡◌, Prelude.◌≤◌, Prelude.List, Prelude.length, List.All}
 use Rattle.dd_values.specs.{Bounds.most_weight, Ranges.AreLimits}
 use Rattle.dd_topology.specs.{Grid.Grid, Grid.IsGrid, Sets.IsSets}

@@ -30,7 +30,7 @@ pub const MOST_IN_BOX: usize = 65_536;
 /// The greatest number of vectors of a discharge.
 pub const MOST_VECTORS: usize = 16;
 
-/// The greatest absolute value of an entry, in the offset of an edge or in a vector of a discharge.
+/// The greatest absolute value of an entry of an edge's offset or of a vector of a discharge.
 pub const FARTHEST: u32 = 4;
 
 /// The greatest period of a strip.

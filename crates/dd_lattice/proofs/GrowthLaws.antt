@@ -1,4 +1,4 @@
--- Runs of copies of a region along an axis, and how a run along each of the first axes makes the region grow.
+-- Runs of copies of a region along an axis, and how runs along one axis after another make the region grow.
 use Rattle.std.proofs.Common.{◌≡◌, ◌⊎◌, inl, inr, ℕ, ◌<◌, ◌≤◌, Bool, true, false, ℤ, pos, negsuc, ◌+ℤ◌, ◌-ℤ◌, ◌≤ℤ◌, List, [], ◌∷◌, ap, sym, refl, ◌∙◌, arith}
 use Rattle.std.proofs.lemmas.{Int.ints, Bool.Decides.nat_tests, List.Elements.All-nil}
 use Rattle.std.specs.{Prelude.◌<ℤ◌, List.Contains, List.Sorted.IsStrictlySortedBy, Cmp.int_ranks, Ordering.int_cmp, Ordering.MatchOrdering}
@@ -259,7 +259,8 @@ far_leaves n (q ∷ ps) some far =
       outside = λ near. c.2 near.0;
     }
 
--- the region after the run along each axis, and the faults of that run in a growth along at least that many axes
+-- The runs along x, y and z, one after another, give the growth along one, two and three axes. A fault of one of these runs is a fault of each growth
+-- that includes this run.
 pub grown_x : (n : ℕ) (ps run : List Place) → IsRegionOf (IsStretched X (pos 0 -ℤ pos n) (pos n +ℤ pos 1) ps) run → IsRegionOf (IsNearby 1 n ps) run
 grown_x n ps run = region_same _ _ run (near_from_x n ps) (x_from_near n ps)
 

@@ -18,7 +18,7 @@ moved p by = place (p.x +ℤ by.x) (p.y +ℤ by.y) (p.z +ℤ by.z)
 abbrev pub most_coordinate : ℕ
 most_coordinate = 1048576
 
--- c is from -most_coordinate, which is written negsuc 1048575, to most_coordinate
+-- c is from -most_coordinate to most_coordinate; negsuc 1048575 stands for -most_coordinate
 abbrev pub IsCoordinateInRange : ℤ → Type 0
 IsCoordinateInRange c = (negsuc 1048575 ≤ℤ c) × (c ≤ℤ pos most_coordinate)
 

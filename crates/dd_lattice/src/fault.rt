@@ -1,11 +1,11 @@
-//! The faults of regions.
+//! The faults of regions and of lists of cells.
 ghost use Rattle.std.specs.Prelude.{◌≡◌};
 ghost use Rattle.dd_lattice.specs.declared.fault.LatticeFault.TheVariants.{Memory};
 
 use std::alloc::{AllocError, AllocFailed};
 use thiserror::Error;
 
-/// Why a region could not be made.
+/// Why a region or a list of cells could not be made.
 #[derive(Clone, Copy, Debug, PartialEq, Eq, Error)]
 pub enum LatticeFault {
     /// A coordinate would exceed 2^20 in absolute value.

@@ -18,7 +18,7 @@ enum Axis {
     Z,
 }
 
-/// The position that is `steps` from the origin along an axis.
+/// The position that is `steps` steps from the origin along an axis.
 fn along(axis: Axis, steps: i32) -> Position
     requires low { (pos 0 -ℤ pos most_coordinate) ≤ℤ steps }
     requires high { steps ≤ℤ pos most_coordinate }
@@ -43,7 +43,8 @@ fn along(axis: Axis, steps: i32) -> Position
     }
 }
 
-/// The union of the region's copies, moved along an axis by every number of steps from `-by` to `by`.
+/// The region stretched along an axis: for each number of steps from `-by` to `by`, a copy of the region is moved along the
+/// axis by this number, and the result is the union of these copies.
 fn stretched(alloc: Global, region: &Region, axis: Axis, by: u32) -> Result<Region, LatticeFault>
     requires { by ≤ most_coordinate }
     ensures { let stretched = IsStretched axis (pos 0 -ℤ pos by) (pos by +ℤ pos 1) region.now in

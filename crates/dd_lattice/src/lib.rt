@@ -1,6 +1,6 @@
 //! Positions and cells of the lattice Z^d for d = 1, 2, 3, their order, and boxes and regions of positions. Each position has
-//! one or more nodes, which are numbered from 0. A cell is a position together with one of its nodes. A box has all positions
-//! whose coordinates lie between two bounds on each axis. A region is a finite set of positions.
+//! one or more nodes, which are numbered from 0. A cell is a position together with one of its nodes. A box consists of all
+//! positions whose coordinates lie between two bounds on each axis. A region is a finite set of positions.
 #![tactic(auto, using(std::proofs::lemmas::Grind::common_steps))]
 
 mod bounds;

@@ -14,7 +14,7 @@ use Rattle.dd_formula.specs.lemmas.AutomatonLaws.{counted_given, instances_compo
 use Rattle.dd_maps.specs.{Guarded.here, Guarded.symbol_is, Pairs.own_symbol, Pairs.identity, Pairs.always_zero}
 use Rattle.dd_expansion.specs.declared.formulas.Formula.TheVariants as v
 
--- a composition has at least as many instances as its outer automaton; so if those of the composition are few, those of the outer one are
+-- a composition has at least as many instances as its outer automaton; so if the composition has few, the outer automaton has few too
 pub few_outer : (n : ℕ) (f h : Automaton) → is_few n (composition f h) ≡ true → is_few n (counted f) ≡ true
 few_outer n f h few =
     list_all-weaker (λ a. nat_le ((composition f h).instances a) most_instances) (λ a. nat_le ((counted f).instances a) most_instances)

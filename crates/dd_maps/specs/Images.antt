@@ -26,7 +26,7 @@ BreaksAt f y look c = (rule_allows y c.node (value f look c) ≡ false) ⊎ (is_
 abbrev pub GivesBackAt : Automaton → Automaton → Look → Cell → Type 0
 GivesBackAt f g look c = image f (image g look) c ≡ look c
 
--- the image under f of the image under g gives the cell another symbol than its own, or the cell has no symbol
+-- the image under f of the image under g gives the cell a symbol other than its own, or the cell has no symbol
 abbrev pub ChangesAt : Automaton → Automaton → Look → Cell → Type 0
 ChangesAt f g look c = GivesBackAt f g look c → ⊥
 

@@ -3,7 +3,7 @@
 pub mod Guarded
 -- the automata of the pairs
 pub mod Pairs
--- where an image breaks a rule, and where one automaton after another changes a symbol
+-- where an image breaks a rule, and where two automata, applied one after the other, change a symbol
 pub mod Images
 -- why a pair of automata is refused
 pub mod Refusals

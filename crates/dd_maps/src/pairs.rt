@@ -103,15 +103,15 @@ fn composed_with(alloc: Global, outer: Automaton, inner: &Automaton) -> Result<A
     }
 }
 
-/// Two automata, which differ at some node of a position exactly if the image under `map` breaks the target there.
+/// Two automata, which differ at some node of a position exactly when the image under `map` breaks the target there.
 ///
 /// The first is a composition: it applies `map`, and then the automaton that `marked` makes of the target. The second gives 0
-/// everywhere. They give a cell different symbols exactly if, in the image under `map`, the cell has a symbol that its node
+/// everywhere. They give a cell different symbols exactly when, in the image under `map`, the cell has a symbol that its node
 /// doesn't allow, or the target is false at the cell.
 ///
 /// # Errors
 /// `Depth` if the target's guarded formula is more than 64 deep. Else `Instances`, `Reach` or `Depth` if the composition
-/// exceeds the limit of this name; the limits are tested in this order. `Memory` if memory ran out.
+/// exceeds the limit that the fault names; the limits are tested in this order. `Memory` if memory ran out.
 pub fn image_pair(
     alloc: Global,
     topology: &Topology,
@@ -140,11 +140,11 @@ pub fn image_pair(
 }
 
 /// Two automata: the composition that applies `inner` and then `outer`, and the identity. At a cell that has a symbol, the two
-/// differ exactly if the composition changes the symbol.
+/// differ exactly when the composition changes the symbol.
 ///
 /// # Errors
-/// `Instances`, `Reach` or `Depth` if the composition exceeds the limit of this name; the limits are tested in this order.
-/// `Memory` if memory ran out.
+/// `Instances`, `Reach` or `Depth` if the composition exceeds the limit that the fault names; the limits are tested in this
+/// order. `Memory` if memory ran out.
 pub fn identity_pair(
     alloc: Global,
     topology: &Topology,

@@ -28,7 +28,7 @@ find_more p (x ∷ xs) (suc i) d lt n h = elim (cases_Bool (p x)) [
 pub split_product : (end b run : ℕ) → b ≤ end → end * run ≡ b * run + (end - b) * run
 split_product end b run h = let e : end ≡ b + (end - b) = omega arith in ap (λ (x : ℕ). x * run) e ∙ omega arith
 
--- an upper bound for the mean of a rise stays one if it is replaced by a greater mean
+-- if a mean is an upper bound for the mean of a rise, so is each greater mean
 pub better : (end before weight run rise d length : ℕ) → 0 < length → end * length ≤ before * length + weight * d → weight * run < rise * length → end * run ≤ before * run + rise * d
 better end before weight run rise d length pos a b =
     le_of_mul-le-mul_right

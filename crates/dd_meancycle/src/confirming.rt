@@ -14,7 +14,8 @@ use crate::rises::{Ratio, reduced};
 use dd_transfer::Graph;
 use dd_values::MOST_NUMBER;
 
-/// Whether an edge leads from `from` to `to`. Each edge to `to` is by the last slice of `to`, so only one edge is tested.
+/// Whether an edge leads from `from` to `to`. The slice of each edge to `to` is the last slice of `to`, so only this slice is
+/// tried.
 fn leads(graph: &Graph, from: u32, to: u32) -> bool
     ensures value { IsTrue result ↔ (next_of graph.now from (to % graph.now.slices) ≡ Some to) }
     ensures kept { IsTransfer graph.now }

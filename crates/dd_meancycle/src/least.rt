@@ -81,7 +81,7 @@ fn in_states(alloc: Global, mean: EdgeMean) -> Result<Mean, AllocError>
     }
 }
 
-/// A cycle of least mean with potentials; or ranks, exactly if the graph has no cycle.
+/// A cycle of least mean with potentials; or ranks, exactly when the graph has no cycle.
 ///
 /// # Errors
 /// `AllocError` if memory ran out.

@@ -1,7 +1,7 @@
 //! The least mean of the cycles of a transfer graph. A cycle is a closed walk, and its mean is its weight divided by its
-//! number of edges. A cycle and a potential for each state show the least mean: along each edge, the potential rises by at
-//! most the denominator of the mean times the edge's weight, less the numerator. If there is no cycle, a rank for each state
-//! shows this: the rank falls along each edge.
+//! number of edges. A cycle with the mean m / l, and a potential for each state, show that m / l is the least mean: along
+//! each edge of weight w, the potential rises by at most l * w - m. If there is no cycle, a rank for each state shows this:
+//! the rank falls along each edge.
 #![tactic(auto, using(std::proofs::lemmas::Grind::common_steps))]
 
 mod confirming;

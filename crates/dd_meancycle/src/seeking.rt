@@ -8,7 +8,7 @@ use crate::rises::{Ratio, reduced};
 use dd_values::Items;
 use std::alloc::{AllocError, Global};
 
-/// A cycle, by its states, and a potential for each state.
+/// A cycle, given by its states, and a potential for each state.
 #[derive(Drop)]
 pub(crate) struct Found {
     pub cycle: Items<u32>,

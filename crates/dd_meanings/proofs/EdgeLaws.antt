@@ -1,4 +1,4 @@
--- Edges without faults, with numbers in place of names, are edges of a topology. No two that leave one node have the same label.
+-- Edges without faults, with numbers in place of names, are edges of a topology. No two of them that leave the same node have the same label.
 use Rattle.std.proofs.Common.{◌≡◌, ℕ, ◌<◌, true, List, [], ◌∷◌, ◌++◌, length, map, take, slice_index_or, Some, Contains, sym, ap, ◌∙◌, subst, arith, if◌then◌else◌, bytes_eq, is_some}
 use Rattle.std.proofs.lemmas.{Grind.common_steps, Bool.Decides.nat_tests, List.length-map, List.take-map}
 use Rattle.std.proofs.lemmas.List.{Folds.list_all-map, Sums.list_all-from_AllPass}

@@ -7,7 +7,7 @@ use Rattle.dd_written.specs.Values.{word_text}
 use Rattle.dd_topology.specs.{Naming.number_of, lemmas.NamingLaws.slice_get-number_of}
 use Rattle.dd_faults.specs.{Names.unknown_variable, Names.named_again, lemmas.Repeats.among}
 
--- a name has a number exactly if it is in the list
+-- a name has a number exactly when it is in the list
 pub is_found : (names : List (List ℕ)) (text : List ℕ) → is_some (number_of names text) ≡ list_any (bytes_eq text) names
 is_found [] text = refl
 is_found (n ∷ names) text = let others = is_found names text in grind (arith, common_steps, nat_tests)

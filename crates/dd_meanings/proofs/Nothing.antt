@@ -7,7 +7,7 @@ use Rattle.dd_faults.specs.lemmas.Nothing.{all_where, parts as apart}
 -- what `grind` needs to split an empty list of faults into its parts
 pub ruleset parts = (apart, nat_tests, length-map)
 
--- if the elements from i on have no fault, neither has element i nor those after it
+-- if the elements from i on have no fault, then element i has none, and those after it have none
 pub none_from : {X Y : Type 0} (f : X → List Y) (xs : List X) (i : ℕ) (x : X) → i < length xs → x ≡ slice_index_or xs i x → flat_map f (drop i xs) ≡ [] → (f x ≡ []) × (flat_map f (drop (i + 1) xs) ≡ [])
 none_from f xs i x lt at none = grind (arith, parts)
 

@@ -9,7 +9,7 @@ use Rattle.dd_expansion.specs.declared.formulas.Formula.TheOpen.{Formula-F}
 use Rattle.dd_faults.specs.{Names.number_in, Names.variable_of, Formulas.names_symbol}
 use Rattle.dd_meanings.specs.declared.atoms.Operand.{Operand}
 
--- the number of a variable, or 0 if the word is no variable
+-- the number of a variable, or 0 if the word is not a variable
 abbrev pub variable_number : List ℕ → List Word → Word → ℕ
 variable_number bytes scope w = unwrap_or (variable_of bytes scope w) 0
 
@@ -32,7 +32,8 @@ abbrev pub not_equal_of : Term → Operand → Formula
 not_equal_of t (Operand.Symbol n) = roll-Formula (Formula-F.NotSymbol t n)
 not_equal_of t (Operand.Term u) = roll-Formula (Formula-F.NotSame t u)
 
--- what an atom says of its term t; `@` says that two terms name the same cell, so it becomes `Place`, while `Same` compares symbols
+-- What an atom says of its term t. The sign `@`, which is `Relation.Same`, says that two terms name the same cell. So it becomes `Formula-F.Place`;
+-- `Formula-F.Same` compares symbols.
 abbrev pub said_of : Context → List Word → Term → Relation → Formula
 said_of x scope t (Relation.Equal r) = equal_of t (side_of x scope r)
 said_of x scope t (Relation.NotEqual r) = not_equal_of t (side_of x scope r)

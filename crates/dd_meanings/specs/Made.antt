@@ -20,7 +20,7 @@ pub record IsRuleOf (s : Setting) (r : LocalRule) : Type 0 where
   pub allowed : r.allowed ≡ s.sets.allowed
   pub formula : IsFormula s.topology s.sets.symbols r.formula
 
--- the rules in an automaton: those of its cases, and of both parts of a composition
+-- the rules in an automaton: those of its cases or, if it is a composition, those in both its parts
 abbrev pub rules_step : Automaton-F (List LocalRule) → List LocalRule
 rules_step (Automaton-F.Given c) = map (λ case. case.0) c.cases
 rules_step (Automaton-F.Composed f g) = f ++ g

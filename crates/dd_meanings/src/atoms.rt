@@ -16,8 +16,8 @@ use dd_written::{
 };
 use std::alloc::Global;
 
-/// The number of a variable: 0 for `o`, and 1, 2, .. for the variables in scope, in their order. It is also 0 if the word is no
-/// variable.
+/// The number of a variable: 0 for `o`, the cell at which the formula is tested, and 1, 2, .. for the variables in scope, in
+/// their order. It is also 0 if the word is not a variable.
 fn variable(text: &Text, scope: &[Word], word: Word) -> u32
     requires { length scope.now ≤ 64 }
     ensures { result ≡ variable_number text.now scope.now word }
@@ -91,8 +91,8 @@ fn side(alloc: Global, context: &Context, scope: &[Word], side: &Comparand) -> M
     }
 }
 
-/// The formula that says that the term's cell has the symbol on the right side. If the right side is a term, the formula says
-/// that the cells of the two terms have the same symbol.
+/// The formula for `=`. If its right side is a symbol, the formula says that the term's cell has this symbol. If it is a term,
+/// the formula says that the cells of the two terms have the same symbol.
 fn equal(term: Term, side: Operand) -> Formula
     ensures { result ≡ equal_of term side }
 {
@@ -102,8 +102,8 @@ fn equal(term: Term, side: Operand) -> Formula
     }
 }
 
-/// The formula that says that the term's cell doesn't have the symbol on the right side. If the right side is a term, the formula
-/// says that the cells of the two terms have different symbols.
+/// The formula for `!=`. If its right side is a symbol, the formula says that the term's cell doesn't have this symbol. If it
+/// is a term, the formula says that the cells of the two terms have different symbols.
 fn not_equal(term: Term, side: Operand) -> Formula
     ensures { result ≡ not_equal_of term side }
 {

@@ -1,5 +1,5 @@
 //! Formulas, with numbers in place of names. A scope is the list of the bound variables, the outermost first. The variable of a
-//! quantifier ranges over the cells of its balls. A ball has a variable as its centre, and a radius.
+//! quantifier ranges over the cells of the quantifier's balls. A ball has a variable as its centre, and a radius.
 ghost use Rattle.std.specs.Prelude.{◌≡◌, ◌+◌, ◌≤◌, [], length, IfOk};
 ghost use Rattle.dd_written.specs.Formulas.{tree_depth};
 ghost use Rattle.dd_faults.specs.Formulas.{formula_faults};
@@ -51,7 +51,7 @@ fn equivalent(alloc: Global, parts: Items<Formula>) -> Made<Formula>
     Ok(whole)
 }
 
-/// Joins the parts of a chain that has this connective between them.
+/// Joins the parts of a chain by this connective.
 fn joined(alloc: Global, join: Join, parts: Items<Formula>) -> Made<Formula>
     ensures { IfOk result (λ f. f ≡ joined_of join parts) }
 {

@@ -1,4 +1,4 @@
-//! The topologies of scripts: the default of a dimension, the built-in ones, and those given by edges.
+//! The topologies of scripts: the default ones, the built-in ones, and those given by edges.
 ghost use Rattle.std.specs.Prelude.{◌≡◌, ◌≤◌, [], length, map, IfOk};
 ghost use Rattle.std.specs.List.{flat_map};
 ghost use Rattle.dd_topology.specs.Grid.{grid};

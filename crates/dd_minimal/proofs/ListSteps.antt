@@ -19,7 +19,7 @@ use Rattle.dd_values.specs.lemmas.Members.{Contains-later, Contains-first}
 abbrev Patterns : Type 0
 Patterns = List (List (Option ℕ))
 
--- ---- where a filling is skipped, and where it is listed
+-- ---- a filling that is skipped, and a filling whose pattern is listed
 
 not_breaking : (thin : List ℕ → List (Option ℕ)) (found : Patterns) (ss : List ℕ) (rest : List (List ℕ)) (b : Bool) → b ≡ false → listed thin found (cond b (ss ∷ rest) rest) ≡ listed thin found rest
 not_breaking thin found ss rest b is = ap (λ c. listed thin found (cond c (ss ∷ rest) rest)) is
@@ -54,7 +54,7 @@ module _ (r : LocalRule) (a at : ℕ) (some : 0 < r.symbols) (within : at < r.sy
       ap (filter (λ ss. does_break (outcome r a ss))) (word_next r.symbols (length (cells_at r a)) at some within)
       ∙ ap (λ k. cond (does_break (outcome r a here)) (here ∷ breaking_from r a k) (breaking_from r a k)) (let next : suc at ≡ at + 1 = omega arith in next)
 
-  -- the filling is marked exactly if it agrees with a pattern that is already found
+  -- the filling is marked exactly when it agrees with a pattern that is already found
   here_marked : (marks : List Bool) (found : Patterns) → AreMarks r.symbols (length (cells_at r a)) marks found → get_or marks at false ≡ is_covered found here
   here_marked marks found are = ap (λ i. get_or marks i false) (sym here_number) ∙ are here here_word
 

@@ -37,7 +37,7 @@ range_within k (suc n) s c = elim (Contains-cons_cases k (range_with_len (k + 1)
   | inr there ↦ let later = range_within (k + 1) n s there in record { from = omega (arith, later.from); below = omega (arith, later.below) }
 ]
 
--- the members of a filtered list are the members that pass the test
+-- each member of a filtered list is a member of the list, and passes the test
 
 pub of_filter : {X : Type 0} (p : X → Bool) (xs : List X) (x : X) → Contains (filter p xs) x → Contains xs x × (p x ≡ true)
 of_filter p xs x c = (

@@ -11,7 +11,7 @@ use Rattle.dd_minimal.specs.finding.Numbers.{IsWord, number, strides_of, digits}
 use Rattle.dd_minimal.proofs.AllWords.{word_rest, word_first}
 use Rattle.dd_values.specs.lemmas.Numbers.{power_some}
 
--- ---- the number of words
+-- ---- how many words there are
 
 joined_length : {X : Type 0} (f : ℕ → List X) (k : ℕ) → ((s : ℕ) → length (f s) ≡ k) → (a n : ℕ) → length (flat_map f (range_with_len a n)) ≡ n * k
 joined_length f k each a zero = omega arith
@@ -108,7 +108,7 @@ digits_number m (suc n) at some =
 pub number_of_digits : (m n at : ℕ) → 0 < m → at < m ^ n → number m (digits m (strides_of m n) at) ≡ at
 number_of_digits m n at some below = digits_number m n at some ∙ mod-eq_of_lt below
 
--- the state of the loop over the strides: each turn divides by the number of symbols once more, starting from the number of all words
+-- the state of the loop over the strides: `stride` starts as m ^ n, the count of all words, and each turn divides it by m
 pub record AreStrides (m n i : ℕ) (now : List ℕ) (stride : ℕ) : Type 0 where
   pub list : now ++ strides_of m (n - i) ≡ strides_of m n
   pub power : stride ≡ m ^ (n - i)

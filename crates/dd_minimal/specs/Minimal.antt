@@ -1,4 +1,4 @@
--- The minimal list, which has the minimal patterns of a rule at a node.
+-- The minimal list of a rule at a node: minimal patterns that together forbid what the rule forbids.
 use Rattle.std.specs.Prelude.{ℕ, zero, suc, ◌≡◌, ◌++◌, ◌&&◌, not, cond, Bool, false, Option, Some, None, List, [], ◌∷◌, length, map}
 use Rattle.std.specs.List.{All, flat_map, range_with_len, list_all}
 use Rattle.dd_formula.specs.LocalRule.{LocalRule, cells_at}
@@ -15,7 +15,7 @@ words m (suc n) = flat_map (λ s. map (λ ss. s ∷ ss) (words m n)) (range_with
 abbrev pub is_spared : LocalRule → ℕ → List ℕ → Bool
 is_spared r a ss = are_allowed r (cells_at r a) ss && is_true_at_origin r a ss
 
--- every filling with allowed symbols, of the cells that are read, breaks the rule if it agrees with the pattern
+-- every filling of the cells that are read breaks the rule if its symbols are allowed and it agrees with the pattern
 abbrev pub all_break : LocalRule → ℕ → List (Option ℕ) → Bool
 all_break r a p = list_all (λ ss. not (agrees p ss && is_spared r a ss)) (words r.symbols (length (cells_at r a)))
 

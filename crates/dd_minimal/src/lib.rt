@@ -1,6 +1,9 @@
-//! The minimal forbidden patterns of a rule at a node. A pattern gives symbols to some of the cells that the rule reads there,
-//! and leaves the others out. No further cell can be left out of a minimal pattern, and together the minimal patterns forbid
-//! exactly what the rule forbids. The cells that are read are listed in cell order: by z, then y, then x, then the node.
+//! Minimal forbidden patterns of a rule at a node. A filling gives a symbol to each cell that the rule reads there. It is a
+//! breaking filling if the cells' nodes allow these symbols and the rule is false under them. A pattern gives symbols to some
+//! of the cells, and leaves the others out. It is forbidden if every filling with allowed symbols that agrees with it is a
+//! breaking one. A forbidden pattern is minimal if no pattern that leaves out a further cell is forbidden. The patterns of the
+//! minimal list are minimal, and together they forbid exactly what the rule forbids. The list need not have all minimal
+//! patterns. The cells that are read are listed in cell order: by z, then y, then x, then the node.
 #![tactic(auto)]
 
 mod agreement;

@@ -38,7 +38,7 @@ pub(crate) fn strides_of(
     Ok(list)
 }
 
-/// The minimal patterns. `table` has the outcome of each filling.
+/// The minimal list. `table` has the outcome of each filling.
 pub(crate) fn list(
     alloc: Global,
     rule: &Rule,

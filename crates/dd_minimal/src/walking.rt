@@ -25,9 +25,9 @@ pub(crate) fn none_holds(symbols: u32, strides: &[usize], table: &[Outcome], fro
     true
 }
 
-/// The answer of `none_holds` for a walk along `strides` and, last, along `stride`, the stride of one more cell. If the answer is
-/// yes, this cell can be left out too. The walk skips the fillings in which the cell has the symbol `kept`. For these, the caller
-/// knows already that the rule is true under none with allowed symbols.
+/// The answer of `none_holds` for a walk along `strides` and, last, along `stride`, the stride of one more cell. If the answer
+/// is yes, this cell can be left out too. The call skips the fillings in which the cell has the symbol `kept`. The caller
+/// already knows that the rule is true under none of these with allowed symbols.
 pub(crate) fn can_spare(
     symbols: u32,
     kept: u32,

@@ -1,4 +1,4 @@
--- What a definition by a fold says of conjunctions and disjunctions: it is applied to each part.
+-- A function that is defined by a fold, such as the truth of a formula, is applied to each part of a conjunction or a disjunction.
 use Rattle.std.proofs.Common.{◌≡◌, ℕ, Bool, List, map, ap, sym, ◌∙◌}
 use Rattle.std.proofs.lemmas.List.Folds.{list_all-map}
 use Rattle.std.specs.List.{list_all, list_any}

@@ -1,4 +1,4 @@
--- The formula made from an expansion is true of a list exactly if the expansion is true when cells have the symbols of the list.
+-- The formula made from an expansion is true of a list exactly when the expansion is true with the symbols that the list gives to cells.
 use Rattle.std.proofs.Common.{◌≡◌, ℕ, Bool, false, List, [], ◌∷◌, map, refl, ap, ◌∙◌, Option, Some, None, Result, Ok, Err, IfOk}
 use Rattle.std.specs.{Prelude.not, List.list_all, List.list_any}
 use Rattle.dd_expansion.specs.declared.expanded.Expanded.{Expanded}

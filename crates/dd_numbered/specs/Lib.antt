@@ -2,5 +2,5 @@
 pub mod Numbering
 -- Formulas over a list of symbols: their truth, and how expansions become such formulas.
 pub mod Numbered
--- When the first symbols of a list settle the truth of a leaf, or of all or some of several formulas.
+-- When the first symbols of a list settle whether a leaf is true, whether all of several formulas are true, or whether at least one is.
 pub mod settling

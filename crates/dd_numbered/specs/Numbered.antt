@@ -24,7 +24,7 @@ holds_in = fold-Numbered (List ℕ → Bool) holds_in_step
 abbrev pub IsSettled : Numbered → List ℕ → Bool → Type 0
 IsSettled e ss b = (more : List ℕ) → holds_in e (ss ++ more) ≡ b
 
--- the leaf that says that the list has the symbol s at the index k, or the constant false if the cell has no number
+-- the leaf that says that the list has the symbol s at the index k, or the constant false if there is no number
 abbrev pub leaf_with : ℕ → Option ℕ → Numbered
 leaf_with s None = roll-Numbered (Numbered-F.Constant false)
 leaf_with s (Some k) = roll-Numbered (Numbered-F.Leaf k s)
@@ -38,6 +38,6 @@ numbered_step number (Expanded-F.And es) = roll-Numbered (Numbered-F.And es)
 numbered_step number (Expanded-F.Or es) = roll-Numbered (Numbered-F.Or es)
 numbered_step number (Expanded-F.Iff e f) = roll-Numbered (Numbered-F.Iff e f)
 
--- the expansion with a number in place of each cell
+-- the expansion with a number in place of each cell, and with the constant false in place of each leaf whose cell has no number
 abbrev pub numbered : Numbering → Expanded → Numbered
 numbered number = fold-Expanded Numbered (numbered_step number)

@@ -1,4 +1,4 @@
--- Numberings of cells. The number of a cell is the index of its symbol in a list.
+-- Numberings of cells. The number of a cell is the index of its symbol in a list. If the number is past the end of the list, the cell has no symbol.
 use Rattle.std.specs.{Prelude.ℕ, Prelude.Option, Prelude.Some, Prelude.None, Prelude.List, Prelude.slice_get, List.position_or_len}
 use Rattle.std.specs.Ordering.{is_eq}
 use Rattle.dd_lattice.specs.{Order.cell_cmp, declared.position.Cell.Cell}

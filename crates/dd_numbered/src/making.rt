@@ -11,9 +11,11 @@ use dd_values::{Boxed, Items};
 use std::alloc::{AllocError, Global};
 
 impl Numbered {
-    /// The expansion with a number in place of each cell. The resulting formula is true of a list of symbols exactly if the
-    /// expansion is true when each cell has the symbol that the list has at the cell's number. A leaf whose cell has no number
-    /// becomes the constant false.
+    /// The expansion with a number in place of each cell. A leaf whose cell has no number becomes the constant false.
+    ///
+    /// A list of symbols gives each cell the symbol at the cell's number. It gives no symbol to a cell that has no number, or
+    /// whose number is past the end of the list. The resulting formula is true of the list exactly when the expansion is true
+    /// with the symbols that the list gives.
     pub fn new<N: Numbers>(
         alloc: Global,
         expanded: &Expanded,

@@ -1,4 +1,5 @@
-//! Numberings of cells. The number of a cell is the index of its symbol in a list.
+//! Numberings of cells. The number of a cell is the index of its symbol in a list. If the number is past the end of the list,
+//! the cell has no symbol.
 ghost use Rattle.std.specs.Prelude.{◌≡◌, ℕ, Option};
 ghost use Rattle.dd_lattice.specs.declared.position.Cell.{Cell};
 

@@ -1,4 +1,4 @@
-//! Cells numbered by their indices in a list. The list is in cell order.
+//! Cells numbered by their indices in a list. The list is in cell order: by z, then y, then x, then the node.
 ghost use Rattle.std.specs.Prelude.{◌≡◌, ◌≤◌, length};
 ghost use Rattle.std.specs.List.Sorted.{IsStrictlySortedBy, IsStrictlySortedBy-prop};
 ghost use Rattle.dd_lattice.specs.Order.{cell_cmp};
@@ -8,8 +8,8 @@ use crate::numbers::Numbers;
 use dd_lattice::Cell;
 
 /// A numbering by a list of cells in cell order. Each cell of the list has its index there as its number. Every other cell has
-/// the length of the list as its number. So in a list that has one symbol for each of the listed cells, every other cell's number
-/// is past the end.
+/// the length of the list as its number. So a list that has one symbol for each of these cells gives no symbol to any other
+/// cell: the other cell's number is past the end.
 #[derive(Drop)]
 pub struct Ranks<'a> {
     /// The cells, strictly ascending in cell order.

@@ -42,7 +42,8 @@ fn leaf_settled(symbols: &[u32], number: usize, symbol: u32) -> Option<bool>
     }
 }
 
-/// Whether all parts are true, if this is settled: either one part is settled as false, or all parts are settled. Else `None`.
+/// Whether all parts are true. This is settled if one part is settled as false, or if all parts are settled. Otherwise the
+/// result is `None`.
 #[cycle(settled)]
 fn all_settled(parts: &[Numbered], symbols: &[u32]) -> Option<bool>
     ensures { IfSome result (AreAllSettled parts.now symbols.now) }
@@ -58,7 +59,8 @@ fn all_settled(parts: &[Numbered], symbols: &[u32]) -> Option<bool>
     if known { Some(true) } else { None }
 }
 
-/// Whether some part is true, if this is settled: either one part is settled as true, or all parts are settled. Else `None`.
+/// Whether some part is true. This is settled if one part is settled as true, or if all parts are settled. Otherwise the result
+/// is `None`.
 #[cycle(settled)]
 fn some_settled(parts: &[Numbered], symbols: &[u32]) -> Option<bool>
     ensures { IfSome result (IsAnySettled parts.now symbols.now) }

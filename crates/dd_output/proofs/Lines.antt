@@ -73,10 +73,11 @@ other_no_digit false = refl
 abbrev pub entries_with : {A : Type 0} → (ℕ → ℕ → List ℕ → List ℕ → Read (A × ℕ)) → ℕ → Option ℕ → ℕ → List ℕ → Read (Entry A A)
 entries_with one least most k = map_at line_entry_of (one (end_at least k) (other_at most k) (zeros (least - suc k)))
 
--- a line's numbers, without the space before the first
+-- a value, with a space before it
 abbrev pub after_shown : {A : Type 0} → (A → List ℕ) → A → List ℕ
 after_shown show x = 32 ∷ show x
 
+-- a line's values and the line feed, without the space before the first value
 abbrev pub line_rest : {A : Type 0} → (A → List ℕ) → List A → List ℕ
 line_rest show xs = drop 1 (flat_map (after_shown show) xs ++ 10 ∷ [])
 

@@ -13,7 +13,8 @@ use dd_derivation::Step;
 use dd_values::{Items, MOST_NUMBER};
 use std::alloc::Global;
 
-/// The weight 0, and a configuration of this weight. No weight is smaller, so there is no refutation, and the steps are empty.
+/// The weight 0, and a configuration of this weight. No weight is smaller, so there is no refutation, and the list of steps is
+/// empty.
 #[tactic(auto, unfolding(crate::specs::reading::Grammar::zero_weight))]
 fn zero_weight_of(
     alloc: Global,

@@ -1,4 +1,4 @@
-//! A source and a sink in memory. Their calls are numbered from 1. Those whose numbers the caller lists fail.
+//! A source and a sink in memory. Their calls are numbered from 1. The caller lists the numbers of the calls that fail.
 ghost use Rattle.std.specs.Prelude.{◌≡◌, ◌+◌, ◌-◌, ◌^◌, ◌<◌, ◌≤◌, ◌↔◌, [], ◌++◌, Some, length, take, drop, min, ◌⊎◌, Contains, IfOk, IsTrue, IsErr};
 
 use crate::faults::Failed;

@@ -65,7 +65,7 @@ fn read_on<S: Source>(
 /// # Errors
 /// - `ReadFault` if a read failed. The bytes read before are lost.
 /// - `TooLong` if the source gave more bytes than the limit.
-/// - `Memory` if memory ran out. Then it isn't known whether one of the other two errors would have come.
+/// - `Memory` if memory ran out. Then it isn't known whether one of the other two errors would have occurred.
 pub fn read_all<S: Source>(
     alloc: Global,
     source: &mut S,
@@ -75,7 +75,7 @@ pub fn read_all<S: Source>(
     ensures bytes { IfOk result (λ bytes. ReadToEnd (S.left source.old) (S.left source.new) bytes.items) }
     ensures fits { IfOk result (λ bytes. length bytes.items ≤ limit) }
 
-    // Unless memory runs out, the result is `TooLong` exactly if the reads of this call gave more bytes than the limit.
+    // Unless memory runs out, the result is `TooLong` exactly when the reads of this call gave more bytes than the limit.
     ensures too_long { IsErrOf result ReadAllFault.TooLong → GivesMore (S.left source.old) (S.left source.new) limit }
     ensures stopped { IsErrOf result ReadAllFault.ReadFault → GivesAtMost (S.left source.old) (S.left source.new) limit }
     ensures refused { OnErr result (GivesAtMost (S.left source.old) (S.left source.new) (limit + 1)) }

@@ -1,4 +1,4 @@
--- The question about a pair is well formed, and the test decides whether the question exceeds the limit on clauses.
+-- The question about a pair is well formed, and `Question::excess` decides whether the question exceeds the limit on clauses.
 use Rattle.std.proofs.Common.{◌≡◌, Bool, true, false, [], Some, None, refl, ap, ◌∙◌, arith}
 use Rattle.dd_known.specs.{Sound.IsSetting, declared.known.Setting.Setting, declared.known.Known.Known}
 use Rattle.dd_formula.specs.LocalRule.{LocalRule}

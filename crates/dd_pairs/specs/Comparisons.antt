@@ -10,7 +10,7 @@ use Rattle.dd_pairs.specs.declared.pair.Pair.{Pair}
 
 -- a question about the configurations that obey a rule, the premise
 pub data ComparisonOf : Type 0 where
-  -- can the image of a configuration under the automaton break the second rule, or have a symbol that its node doesn't allow?
+  -- can the image of a configuration under the automaton break the second rule, or give a cell a symbol that the cell's node doesn't allow?
   image : LocalRule → Automaton → LocalRule → ComparisonOf
   -- can a configuration change if the second automaton is applied to it, and then the first?
   change : LocalRule → Automaton → Automaton → ComparisonOf
@@ -25,7 +25,7 @@ abbrev pub IsComparisonOf : Setting → ComparisonOf → Type 0
 IsComparisonOf s (image x f y) = IsRuleOf s x × IsAutomatonOf s f × IsRuleOf s y
 IsComparisonOf s (change x f g) = IsRuleOf s x × IsAutomatonOf s f × IsAutomatonOf s g
 
--- The pair of a comparison. Its two automata differ at a cell exactly if the comparison's answer at this cell is yes. For an
+-- The pair of a comparison. Its two automata differ at a cell exactly when the comparison's answer at this cell is yes. For an
 -- image, the left one applies the comparison's automaton, and then `marked` of the second rule. So the left one gives 0 where the
 -- image has an allowed symbol and obeys the second rule, and 1 elsewhere. The right one always gives 0. For a change, the left
 -- one applies the second automaton and then the first. The right one leaves each symbol as it is.

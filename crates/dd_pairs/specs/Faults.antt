@@ -10,14 +10,14 @@ use Rattle.dd_meanings.specs.Definitions.{count_faults}
 use Rattle.dd_question.specs.{Boxes.is_long, declared.excess.Excess.Excess}
 use Rattle.dd_pairs.specs.Comparisons.{ComparisonOf, image, change, premise, pair_of, goal_of}
 
--- the limit on scripts that is exceeded if a question exceeds this limit on its work
+-- the limit that a script exceeds if one of its questions exceeds this limit on its work
 abbrev pub limit_of : Excess → Limit
 limit_of Excess.Clauses = Limit.Clauses
 limit_of Excess.Patterns = Limit.Patterns
 limit_of Excess.States = Limit.States
 
--- For an image, a formula says that the second rule is true and that the cell's node allows its symbol. The fault is the limit on
--- depth, if this formula is too deep.
+-- For an image, the guarded formula says that the second rule is true and that the cell's node allows its symbol. If this formula
+-- is too deep, the fault is the limit on depth. Otherwise there is no fault, and there is none for a change.
 abbrev pub guard_faults : Setting → ComparisonOf → List Fault
 guard_faults s (image x f y) = over (nat_lt most_nested (guarded_depth s.sets y)) Limit.Depth
 guard_faults s (change x f g) = []

@@ -1,6 +1,6 @@
 -- comparisons: the parts of a query about an image or a conjugacy
 pub mod Comparisons
--- which limits pairs and the questions about them exceed
+-- the limits that pairs and the questions about them exceed
 pub mod Faults
 -- what the program makes from comparisons
 pub mod Made

@@ -34,7 +34,7 @@ impl Pair {
         ensures value { result ≡ record { left = left; right = right } }
         ensures gates { HaveGates result }
     {
-        // These calls are made for their contracts, which give the proof laws about the automata.
+        // The contracts of these calls are laws about the automata, which the proof needs.
         has_gates(&left);
         has_gates(&right);
         Pair { left, right }
@@ -56,8 +56,8 @@ impl Pair {
     }
 }
 
-/// The conjugacy of two rules, from its four pairs. They come in this order: for the image, for the image back, for the way there
-/// and back, and for the way back and there.
+/// The conjugacy of two rules, from its four pairs. They are, in order, for the image under the map, for the image under the
+/// map back, for the map followed by the map back, and for the map back followed by the map.
 pub fn conjugacy<'a>(from: &'a Rule, to: &'a Rule, pairs: &'a [Pair]) -> Conjugacy<'a>
     requires { length pairs.now ≡ 4 }
     ensures { IsConjugacyBy from.now to.now pairs.now result }
@@ -76,7 +76,7 @@ pub fn conjugacy<'a>(from: &'a Rule, to: &'a Rule, pairs: &'a [Pair]) -> Conjuga
     }
 }
 
-/// The limit on scripts that is exceeded if a question exceeds this limit on its work.
+/// The limit that a script exceeds if one of its questions exceeds this limit on its work.
 pub fn limit_of(excess: Excess) -> Limit
     ensures { result ≡ limit_of excess }
 {

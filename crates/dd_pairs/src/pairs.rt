@@ -79,7 +79,7 @@ fn made(alloc: Global, known: &Known, comparisons: &[Comparison]) -> Result<Item
 /// The query's numbers are indices into `rules` and `automata`.
 ///
 /// # Errors
-/// The first limit that is exceeded, or that memory ran out. The questions are tested in order, each first for the limits on its
+/// The first limit that is exceeded, or a lack of memory. The questions are tested in order, each first for the limits on its
 /// pair and then for the limit on clauses.
 pub fn pairs_of(
     alloc: Global,

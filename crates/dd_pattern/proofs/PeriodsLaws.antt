@@ -1,4 +1,4 @@
--- Lists of periods: their order, and what loops add to them.
+-- Lists of periods: what insertions and loops add to them.
 use Rattle.std.proofs.Common.{◌≡◌, ℕ, ◌+◌, ◌≤◌, List, [], ◌∷◌, refl, ap, sym, ◌∙◌, subst, arith, rules, ◌↔◌, ◌⊎◌, inl, inr}
 use Rattle.std.proofs.{Math.Nat.eq-or-lt_of_le, lemmas.Bool.cond_both, lemmas.Bool.ltb-true, lemmas.Bool.ltb-false}
 use Rattle.std.specs.{Cmp.IsTotalOrder, Cmp.Rules.comparing, List.Contains, BTreeSet.insert_key, Ordering.match_ordering}
@@ -158,7 +158,7 @@ box_from_within d n q h =
       most = h.x_most;
     }
 
--- a list that the loops make from the empty list has exactly the valid periods that are at most n
+-- a list that the loops make from the empty list has exactly the valid periods whose x, y and z are at most n
 pub all_within : (d n : ℕ) (ps : List Periods) → IsAdded [] ps (HasBox d n n) → AreAllWithin d n ps
 all_within d n ps h q = (
   λ c. elim ((h q).0 c) [ inl none ↦ absurd (Contains-nil q none) | inr box ↦ within_from_box d n q box ],

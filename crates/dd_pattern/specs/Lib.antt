@@ -2,7 +2,7 @@
 pub mod Reading
 -- fillings: finitely many cells, with a symbol for each
 pub mod Filling
--- periods with a shear
+-- periods, which give the vectors along which a configuration repeats
 pub mod Periods
 -- periodic configurations: the symbols of one fundamental box give every cell its symbol
 pub mod Tile

@@ -1,4 +1,4 @@
--- Weights: the symbol s has the weight at index s of a list of whole numbers.
+-- Weights: the symbol s has the weight at index s of a list of natural numbers.
 use Rattle.std.specs.{Prelude.ℕ, Prelude.◌<◌, Prelude.◌≤◌, Prelude.List, Prelude.length, Prelude.slice_index, Prelude.sum_by, List.All}
 use Rattle.dd_values.specs.Bounds.{most_weight}
 

@@ -62,7 +62,7 @@ impl Filling {
         requires { IsStrictlySortedBy cell_cmp cells.now }
         ensures { IfOk result (λ found. MatchOption found (IsWanting self.now cells.now) (IsRestriction self.now cells.now)) }
     {
-        // This line tells the proof what the type guarantees: the domain ascends, and each cell has one symbol.
+        // This line tells the proof what the type guarantees: the cells are strictly ascending, and each has one symbol.
         let _domain = &self.cells;
         let mut symbols = Vec::with_capacity(alloc, cells.len())?;
         for cell in cells {

@@ -1,5 +1,6 @@
 //! Fillings and periodic configurations, their weights, and what it means to read them. A filling gives a symbol to each of
 //! finitely many cells. A periodic configuration gives a symbol to every cell of Z^d, and repeats along its period vectors.
+//! Cells, their nodes and cell order are those of `dd_lattice`.
 #![tactic(auto)]
 
 mod filling;

@@ -220,7 +220,7 @@ impl Periodic {
     }
 }
 
-/// The position with these coordinates, which are in range.
+/// The position with these coordinates. Each must be at most 65,536.
 fn position_of(x: usize, y: usize, z: usize) -> Position
     requires x_small { x ≤ most_symbols }
     requires y_small { y ≤ most_symbols }

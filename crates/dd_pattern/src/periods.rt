@@ -26,8 +26,8 @@ pub struct Periods {
 }
 
 impl Periods {
-    /// All periods in `dim` dimensions whose `x`, `y` and `z` are at most `most`, each with every possible shear, in the order
-    /// of periods.
+    /// All periods in `dim` dimensions whose `x`, `y` and `z` are at most `most`, with every possible shear, in the order of
+    /// periods.
     pub fn within(alloc: Global, dim: u32, most: u32) -> Result<Vec<Periods>, AllocError>
         ensures ascending { IfOk result (λ v. IsStrictlySortedBy periods_cmp v.items) }
         ensures members { IfOk result (λ v. AreAllWithin dim most v.items) }
@@ -155,7 +155,8 @@ pub(crate) fn quotient(x: i32, n: u32) -> i32
     x.div_euclid(n as i32)
 }
 
-/// The coordinate `x` of a position after `(shear, y, 0)` has been subtracted `times` times.
+/// The coordinate `x` of a position after the second period vector has been subtracted `times` times. The vector's first
+/// coordinate is `shear`.
 pub(crate) fn unsheared(x: i32, times: i32, shear: u32) -> i64
     requires near { IsCoordinateInRange x }
     requires times { unsigned_abs times ≤ most_coordinate + 1 }

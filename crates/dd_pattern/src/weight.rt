@@ -2,7 +2,7 @@
 ghost use Rattle.std.specs.Prelude.{◌≡◌, ◌≤◌, length};
 ghost use Rattle.dd_pattern.specs.Weight.{AreWeights, total_weight};
 
-/// The sum of the symbols' weights, where the symbol `s` has the weight `weights[s]`. There must be at most 2^32 symbols.
+/// The sum of the symbols' weights, where the symbol `s` has the weight `weights[s]`. The list must have at most 2^32 symbols.
 pub fn weight_of(symbols: &[u32], weights: &[u32]) -> u64
     requires weights { AreWeights weights.now symbols.now }
     requires few { length symbols.now ≤ 4294967296 }

@@ -1,4 +1,4 @@
--- What is returned by the calls of which `box_clauses` is made.
+-- What the calls in `box_clauses` return.
 use Rattle.std.proofs.Common.{◌≡◌, ℕ, ◌*◌, ◌≤◌, ◌<◌, ◌^◌, true, List, length, ap, sym, subst, ◌∙◌, arith, Some, None, if◌then◌else◌, rules}
 use Rattle.std.specs.{Prelude.Option, Prelude.Result, Prelude.IfOk, Prelude.nat_le, List.All, Option.IsSome, List.Sorted.IsStrictlySortedBy}
 use Rattle.dd_lattice.specs.{Order.cell_cmp, Boxes.Bounds, Boxes.centred, Boxes.volume, declared.position.Cell.Cell}

@@ -33,7 +33,7 @@ wired_same n m w x d ok more =
     near_same true o within = wire_same n m o within more
     near_same false o within = refl
 
--- a cell gives its part where the premise is wired, and nothing elsewhere
+-- a cell gives its part if the premise is wired there, and otherwise gives no part
 pub taken : (w : Wiring) (n : ℕ) (x : LocalRule) (d : Cell) → is_wired_at w n x d ≡ true → wired_parts w n x (d ∷ []) ≡ wired_part w x d ∷ []
 taken w n x d h = ap (λ b. map (wired_part w x) (cond b (d ∷ []) [])) h
 
@@ -64,7 +64,7 @@ pub next_parts : (w : Wiring) (n : ℕ) (x : LocalRule) (cells : List Cell) (i :
     parts_from w n x cells i ≡ wired_parts w n x (d ∷ []) ++ parts_from w n x cells (i + 1)
 next_parts w n x cells i d h here = ap (wired_parts w n x) (next_cell cells i d h here) ∙ parts_split w n x d (drop (i + 1) cells)
 
--- The loop over cells: what the parts of all cells give is what is already there, and then what the parts of the cells left give.
+-- The loop over cells: `start` with the parts of all cells is `now` with the parts of the cells that are left.
 pub record PlacesLeft (w : Wiring) (x : LocalRule) (cells : List Cell) (i : ℕ) (start now : Encoding) : Type 0 where
   pub inputs : now.circuit.inputs ≡ start.circuit.inputs
   pub left : with_parts start (wired_parts w start.circuit.inputs x cells) ≡ with_parts now (parts_from w start.circuit.inputs x cells i)

@@ -60,7 +60,7 @@ same_symbol set m symbols others read other below same k h =
 same_tile : (t u : Tile) → t.dimension ≡ u.dimension → t.periods ≡ u.periods → t.nodes ≡ u.nodes → t.symbols ≡ u.symbols → t ≡ u
 same_tile t u d p n s = λ i. record { dimension = d i; periods = p i; nodes = n i; symbols = s i }
 
--- a configuration that is made is the one asked for
+-- if a configuration is made, it is the one that was asked for
 pub made_is : {B : Type 0} (r : Result Tile B) (o : Option Tile) (t u : Tile) (S : B → Type 0) → MatchResult r (λ p. (p ≡ u) × IsPeriodic u) (λ back. S back × (IsPeriodic u → ⊥)) →
     o ≡ result_ok r → o ≡ Some t → t ≡ u
 made_is (Ok a) o t u S h ok is = some_same t a (sym is ∙ ok) ∙ h.0

@@ -42,7 +42,7 @@ row_full n m k true None s more full fit h = absurd (cc)
 row_full n m k true (Some ss) s more full fit h =
     and_from (length ss == k) (list_all (is_signal m) ss) (eq-eqb (length ss) k (full ss refl)) (all_signals n m ss more fit)
 
--- the cells that a rule reads have all their signals exactly if each leaf of the rule has its wire
+-- the cells that a rule reads have all their signals exactly when each leaf of the rule has its wire
 pub same_reads : (n m : ℕ) (w : Wiring) (x : LocalRule) (d : Cell) → IsRule x → d.node < x.nodes → extent d.position ≤ 1048560 → AreInputs n w → HasAllSymbols x.symbols w → n ≤ m →
     are_reads_wired m w x d ≡ is_wired_at w m x d
 same_reads n m w x d rule node near ok full more =

@@ -1,4 +1,4 @@
--- What is returned by the calls of which `torus_clauses` is made.
+-- What the calls in `torus_clauses` return.
 use Rattle.std.proofs.Common.{◌≡◌, ℕ, ◌+◌, ◌*◌, ◌≤◌, ◌<◌, ◌^◌, true, List, map, length, refl, ap, sym, subst, ◌∙◌, arith}
 use Rattle.std.proofs.lemmas.{Nat.mul-le, List.Elements.All-map, List.Elements.All-weaker}
 use Rattle.std.proofs.lemmas.{List.FromFn.length-range_with_len, Result.IfOk-weaker}

@@ -25,7 +25,7 @@ pairs (v ∷ vs) = map (λ w. literal v false ∷ literal w false ∷ []) vs ++ 
 abbrev pub one_hot : List ℕ → List (List Literal)
 one_hot vs = map (λ v. literal v true) vs ∷ pairs vs
 
--- the cell with the number k has none of these symbols, of m in all
+-- the cell with the number k has none of these symbols; there are m symbols in all
 abbrev pub none_of : ℕ → ℕ → List ℕ → List (List Literal)
 none_of m k symbols = map (λ s. literal (input m k s) false ∷ []) symbols
 
@@ -41,7 +41,8 @@ clauses_from x first cells = flat_map (λ numbered. symbol_clauses x numbered.0 
 abbrev pub cell_clauses : LocalRule → List Cell → List (List Literal)
 cell_clauses x cells = clauses_from x 0 cells
 
--- one part of a problem, which is the clause list of a question: some gates, and then clauses over their signals
+-- A problem is the clause list of a question. One part of it has some gates, and then clauses over the signals of these gates.
+-- A maker gives a signal and its gates, from the number of variables before these gates.
 pub record Part : Type 0 where
   pub makers : List Maker
   pub tail : List Signal → List (List Literal)

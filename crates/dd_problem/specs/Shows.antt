@@ -1,4 +1,4 @@
--- When clauses express what a box question asks. `set` is an assignment.
+-- When clauses express what a box question asks. `set` is an assignment. `look` is a look-up, which gives cells their symbols.
 use Rattle.std.specs.Prelude.{◌≡◌, ◌<◌, ℕ, Bool, true, List}
 use Rattle.dd_lattice.specs.declared.position.Cell.{Cell}
 use Rattle.dd_pattern.specs.{declared.periods.Periods.Periods, Reading.Look, Tile.Tile}
@@ -23,7 +23,7 @@ pub record Shows (clauses : List (List Literal)) (x : LocalRule) (g : GoalOf) (n
 abbrev pub AreRefuted : List (List Literal) → Type 0
 AreRefuted clauses = (set : ℕ → Bool) → Satisfies set clauses → ⊥
 
--- the clauses are refuted exactly if B(n) suffices: no admissible filling of it has the goal at the origin
+-- the clauses are refuted exactly when B(n) suffices: no admissible filling of it has the goal at the origin
 pub record DecidesBox (clauses : List (List Literal)) (x : LocalRule) (g : GoalOf) (n : ℕ) : Type 0 where
   pub suffices : AreRefuted clauses → Suffices x g n
   pub refuted : Suffices x g n → AreRefuted clauses

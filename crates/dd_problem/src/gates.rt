@@ -1,4 +1,5 @@
-//! Rules and goals as gates and clauses, at the cells where all that the rule or the goal reads has inputs.
+//! Gates and clauses for a rule, at the cells where all that the rule reads has inputs, and for a goal, at the origin. A
+//! template has the gates of a rule at one of its nodes. They are made once, and placed at that node of any position.
 ghost use Rattle.std.specs.Prelude.{◌≡◌, ◌≤◌, ◌<◌, ◌+◌, ◌-◌, ◌∷◌, ℕ, [], true, map, All, IfOk, OnOk};
 ghost use Rattle.std.specs.List.{range_with_len};
 ghost use Rattle.dd_values.specs.Bounds.{most_variables};
@@ -42,7 +43,7 @@ fn push_place(
     encoder.push_clause(&[literal_of(signal)])
 }
 
-/// Does what `push_place` does if each cell that the rule reads at `cell` has inputs. Otherwise does nothing.
+/// If each cell that the rule reads at `cell` has inputs, does what `push_place` does. Otherwise does nothing.
 fn push_if_wired(
     encoder: &mut Encoder,
     rule: &Rule,

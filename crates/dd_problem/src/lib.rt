@@ -1,15 +1,18 @@
-//! Box questions (`dd_boxes`) as clauses. A box question has a rule, the premise, and a goal: a property of a position, such
-//! as that a given rule is broken there. The question asks whether no configuration that obeys the premise has the goal at any
-//! position.
+//! Box questions (`dd_boxes`) as clauses. A box question has a rule, which is its premise, and a goal: a property of a
+//! position, such as that a given rule is broken there. The question asks whether no configuration that obeys the premise has
+//! the goal at any position. Each position has the same nodes. A cell is a position together with one of its nodes.
 //!
-//! The clauses of a box are satisfiable exactly if the box has an admissible filling with the goal at the origin. (A filling
-//! is admissible if the premise is true at each of its cells where all that the premise reads has a symbol.) The clauses of a
-//! torus are satisfiable exactly if some configuration of the torus's periods lives in the premise's subshift (obeys the
-//! premise at every cell) and has the goal at the origin. A satisfying assignment of a torus's clauses is read back as such a
-//! configuration. The configurations of a torus repeat along the vectors `(x, 0, 0)`, `(s, y, 0)` and `(0, 0, z)`, where x, y
-//! and z are the periods of the torus and s is its shear. The fundamental box of the torus is the box that repeats: along each
-//! axis its coordinates run from 0 to the period minus 1. Cells are numbered in cell order: by z, then y, then x, then the
-//! node. A signal is a variable of a circuit, or its opposite (its negation).
+//! The clauses of a box are satisfiable exactly when the box has an admissible filling with the goal at the origin. (A filling
+//! of a box gives each of its cells a symbol that the cell's node allows. The filling is admissible if the premise is true at
+//! each of these cells where all that the premise reads has a symbol.) The clauses of a torus are satisfiable exactly when some
+//! configuration of the torus's periods lives in the premise's subshift (obeys the premise at every cell) and has the goal at
+//! the origin. A satisfying assignment of a torus's clauses is read back as such a configuration. The configurations of a torus
+//! repeat along the vectors `(x, 0, 0)`, `(s, y, 0)` and `(0, 0, z)`, where x, y and z are the periods of the torus and s is
+//! its shear. The fundamental box of the torus is the box that repeats: along each axis its coordinates run from 0 to the
+//! period minus 1. Cells are numbered in cell order: by z, then y, then x, then the node.
+//!
+//! The premise and the goal become gates of a circuit, and clauses over signals. A signal is a variable of the circuit, or its
+//! opposite (its negation). The inputs of the circuit are the variables that say which symbols the cells have.
 #![tactic(auto)]
 
 mod boxes;

@@ -9,7 +9,7 @@ use Rattle.dd_faults.specs.lemmas.Nothing.{both_nil, fits, parts}
 use Rattle.dd_query.specs.{Parts.number_of_word, Parts.word_at, Queries.query_of, Queries.IsQueryWithin}
 use Rattle.dd_query.proofs.{ShapeLaws.value_small, ShapeLaws.strip_is, ShapeLaws.all_close, ShapeLaws.vectors_are, TorusLaws.torus_is}
 
--- the number at each index is that of something known that has the role at this index
+-- the number at each index is that of a known rule, automaton or configuration; the role at this index says which of the three
 abbrev AreThere : Context → List Role → (ℕ → ℕ) → Type 0
 AreThere x [] number = Unit {0}
 AreThere x (r ∷ rs) number = (number 0 < length (named x.known r)) × AreThere x rs (λ i. number (suc i))

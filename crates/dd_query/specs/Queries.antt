@@ -27,7 +27,7 @@ abbrev pub query_of : Context → Request → Query
 query_of x r = query_asked r.kind x r
 
 -- Each rule, automaton and configuration that the query refers to by number is one that the script has defined. The query's periods, radius, margin
--- and vectors are within their bounds. If the query asks about images or a conjugacy, there are at least two symbols.
+-- and vectors are within their bounds. For a `Maps` or a `Conjugate` query, there are at least two symbols.
 abbrev pub IsQueryWithin : Known → Query → Type 0
 IsQueryWithin k (Query.Member configuration rule) = (configuration < length k.configurations) × (rule < length k.rules)
 IsQueryWithin k (Query.Contains outer inner) = (outer < length k.rules) × (inner < length k.rules)

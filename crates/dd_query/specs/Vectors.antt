@@ -11,6 +11,6 @@ coordinate bytes v axis = option_map_or (signed_value bytes) (slice_get v.entrie
 abbrev pub place_of : List ℕ → Vector → Place
 place_of bytes v = place (coordinate bytes v 0) (coordinate bytes v 1) (coordinate bytes v 2)
 
--- no entry is over `farthest` in absolute value
+-- no entry is over 4 (`farthest`) in absolute value
 abbrev pub IsClose : List ℕ → Vector → Type 0
 IsClose bytes v = is_far bytes v ≡ false

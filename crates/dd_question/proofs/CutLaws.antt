@@ -1,4 +1,4 @@
--- A count that is cut off at a limit exceeds the limit exactly if the whole count does.
+-- A count that is cut off at a limit exceeds the limit exactly when the whole count does.
 use Rattle.std.proofs.{Common.◌≡◌, Common.ℕ, Common.max, Common.ap, Common.◌∙◌, Common.arith, lemmas.Bool.Decides.nat_tests}
 use Rattle.std.specs.Prelude.{nat_lt}
 use Rattle.dd_values.specs.declared.limits.Limits.{Limits}

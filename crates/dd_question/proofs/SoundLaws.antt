@@ -4,7 +4,7 @@ use Rattle.std.proofs.lemmas.Bool.{or_parts, ltb-false, false≢true}
 use Rattle.std.specs.Prelude.{◌||◌, nat_lt}
 use Rattle.dd_values.specs.declared.limits.Limits.{Limits}
 use Rattle.dd_formula.specs.{LocalRule.LocalRule, LocalRule.IsRule, Counts.largest_clauses}
-use Rattle.dd_counts.specs.Rules.{pattern_count, states, longer_states, most_patterns, most_states, most_longer_states}
+use Rattle.dd_counts.specs.Rules.{pattern_count, states, window_count, most_patterns, most_states, most_windows}
 use Rattle.dd_strip.specs.Strips.{IsFew, strip_for}
 use Rattle.dd_boxes.specs.Goals.{GoalOf, breaks, AreAlike, IsGoalFor, KeepsRule}
 use Rattle.dd_boxes.specs.{Counts.goal_clauses, Counts.most_clauses, lemmas.ReachLaws.least_is_goal_reach}
@@ -59,8 +59,8 @@ few_patterns x few a below = cases (nat_lt most_patterns (pattern_count x a)) re
 few_states : (x : LocalRule) (strip : List ℕ) → has_many_states x (strip_volume strip) ≡ false → IsFew x (strip_for x strip)
 few_states x strip few =
     let volume = strip_volume strip in
-    let both = or_parts (nat_lt most_states (states x volume)) (nat_lt most_longer_states (longer_states x volume)) few in
-    (ltb-false most_states (states x volume) both.0, ltb-false most_longer_states (longer_states x volume) both.1)
+    let both = or_parts (nat_lt most_states (states x volume)) (nat_lt most_windows (window_count x volume)) few in
+    (ltb-false most_states (states x volume) both.0, ltb-false most_windows (window_count x volume) both.1)
 
 pub sound : (l : Limits) (a : Asked) → IsFormed a → excess_of l a ≡ None → IsSoundAsked l a
 sound l (membership x t) formed none = formed

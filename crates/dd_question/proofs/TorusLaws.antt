@@ -2,11 +2,11 @@
 use Rattle.std.proofs.Common.{◌≡◌, ℕ, ◌+◌, ◌*◌, ap, ◌∙◌, arith}
 use Rattle.dd_formula.specs.{Counts.cut, lemmas.Cuts.cut_times_left, lemmas.Cuts.cut_times_right}
 
--- a product that is cut off stays the same if its first factor is cut off before
+-- a product that is cut off stays the same if its first factor is cut off beforehand
 pub next_factor : (l first second whole part : ℕ) → first ≡ cut l whole → second ≡ cut l (first * part) → second ≡ cut l (whole * part)
 next_factor l first second whole part is told = told ∙ (ap (λ n. cut l (n * part)) is ∙ cut_times_left l whole part)
 
--- a product that is cut off stays the same if both factors are cut off before
+-- a product that is cut off stays the same if both factors are cut off beforehand
 both_factors : (l a b product first second : ℕ) → a ≡ cut l first → b ≡ cut l second → product ≡ cut l (a * b) → product ≡ cut l (first * second)
 both_factors l a b product first second is_a is_b told =
     next_factor l a product first b is_a told ∙ (ap (λ n. cut l (first * n)) is_b ∙ cut_times_right l first second)

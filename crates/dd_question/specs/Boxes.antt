@@ -1,12 +1,13 @@
--- Box questions: how many clauses they take, and when they are sound. A box question has a rule, the premise, and a goal. It asks whether no
--- configuration that obeys the premise has the goal at any position.
+-- Box questions: how many clauses they take, and when they are sound. A box question has a rule, which is its premise, and a goal. It asks whether no
+-- configuration that obeys the premise has the goal at any position. A search on a box or a torus looks for an assignment that satisfies certain
+-- clauses (see dd_problem).
 use Rattle.std.specs.Prelude.{ℕ, Bool, max, nat_lt}
 use Rattle.dd_values.specs.declared.limits.Limits.{Limits}
 use Rattle.dd_formula.specs.{LocalRule.LocalRule, LocalRule.IsRule, Counts.largest_clauses}
 use Rattle.dd_boxes.specs.{Goals.GoalOf, Goals.IsGoalFor, Goals.KeepsRule, Boxes.goal_reach}
 use Rattle.dd_boxes.specs.Counts.{goal_clauses, most_clauses, IsSmallQuestion}
 
--- the number of clauses of a box question, on the largest box or torus that a search may try
+-- how many clauses a box question takes at most, on the largest box or torus that a search may try
 abbrev pub clauses_of : Limits → LocalRule → GoalOf → ℕ
 clauses_of l x g = largest_clauses x (goal_clauses g) (max l.radius (goal_reach g)) l.period
 
@@ -14,13 +15,13 @@ clauses_of l x g = largest_clauses x (goal_clauses g) (max l.radius (goal_reach 
 abbrev pub is_long : Limits → LocalRule → GoalOf → Bool
 is_long l x g = nat_lt most_clauses (clauses_of l x g)
 
--- the parts of the box question fit together: the premise is a rule, the goal fits it, and the goal's rule, if it has one, is a
--- rule
+-- the parts of the box question fit together: the premise is a well-formed rule, the goal fits it, and the goal's rule, if the
+-- goal has one, is well formed
 abbrev pub IsFormedBox : LocalRule → GoalOf → Type 0
 IsFormedBox x g = IsRule x × IsGoalFor x g × KeepsRule g
 
--- the goal fits the premise; the goal's rule, if it has one, is a rule; and the question takes at most 2,000,000 clauses on the
--- largest box and on the largest torus that a search may try
+-- the goal fits the premise; the goal's rule, if the goal has one, is well formed; and the question takes at most 2,000,000
+-- clauses on the largest box and on the largest torus that a search may try
 pub record IsAskable (l : Limits) (x : LocalRule) (g : GoalOf) : Type 0 where
   pub goal : IsGoalFor x g
   pub rule : KeepsRule g

@@ -19,8 +19,8 @@ pub record IsChecked (q : AskedWithin) : Type 0 where
   pub limits : AreLimits q.limits
   pub sound : IsSoundAsked q.limits q.question
 
--- the fault is right: the limits of the search are out of range; or else some part doesn't fit those before it; or else the
--- question exceeds a limit on its work
+-- the fault is right: the limits of the search are out of range; or else some part doesn't fit those before it, or memory ran
+-- out; or else the question exceeds a limit on its work
 pub data IsFaultWithin (l : Limits) (a : Asked) : QuestionFault → Type 0 where
   limits_fault : ¬ AreLimits l → IsFaultWithin l a fault.Limits
   part_fault : {f : QuestionFault} → AreLimits l → IsPartFault a f → IsFaultWithin l a f

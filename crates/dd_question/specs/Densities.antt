@@ -1,13 +1,13 @@
--- Questions for the least density of a strip: how many states and windows its transfer graph has. A state is a filling of successive slices of the
--- strip. A window has one more slice.
+-- Questions for the least density of a strip: how many states and windows its transfer graph has. A slice of the strip has the cells of one x. A
+-- state is a filling of successive slices. A window has one more slice.
 use Rattle.std.specs.Prelude.{ℕ, ◌*◌, ◌||◌, List, Bool, nat_lt, slice_index}
 use Rattle.dd_formula.specs.LocalRule.{LocalRule}
-use Rattle.dd_counts.specs.Rules.{states, longer_states, most_states, most_longer_states}
+use Rattle.dd_counts.specs.Rules.{states, window_count, most_states, most_windows}
 use Rattle.dd_strip.specs.Strips.{IsStrip, HasWeights, IsFew, strip_for}
 
--- the transfer graph of a strip whose slices have this many positions has too many states or windows
+-- the rule's transfer graph over a strip has too many states or windows; each slice of the strip has `volume` positions
 abbrev pub has_many_states : LocalRule → ℕ → Bool
-has_many_states x volume = nat_lt most_states (states x volume) || nat_lt most_longer_states (longer_states x volume)
+has_many_states x volume = nat_lt most_states (states x volume) || nat_lt most_windows (window_count x volume)
 
 -- the number of positions of a slice
 abbrev pub strip_volume : List ℕ → ℕ

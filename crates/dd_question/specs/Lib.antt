@@ -17,5 +17,5 @@ pub mod Tori
 pub mod Discharges
 -- lemmas on these definitions, with their proofs
 pub mod lemmas
--- the measures of goals, and the tests of vectors
+-- how far goals read and how many clauses they take, and the tests of the vectors of a discharge
 pub mod measuring

@@ -16,7 +16,7 @@ use Rattle.dd_question.specs.declared.excess.Excess.TheVariants as excess
 use Rattle.dd_question.specs.declared.fault.QuestionFault.TheVariants as fault
 use Rattle.dd_question.specs.declared.question.Question.TheVariants as question
 
--- A question, as contracts see it. `ws` lists the weights of the symbols, and `vs` the vectors of a discharge.
+-- A question, as contracts see it. In the definitions below, `ws` lists the weights of the symbols, and `vs` the vectors of a discharge.
 pub data Asked : Type 0 where
   -- does the configuration live in the rule's subshift, that is, does it obey the rule at every cell?
   membership : LocalRule → Tile → Asked
@@ -27,8 +27,8 @@ pub data Asked : Type 0 where
   equality : LocalRule → LocalRule → Asked
   -- Which patterns does the rule forbid? Such a pattern gives a symbol to each cell that the rule reads at a node, and makes the rule false there.
   listing : LocalRule → Asked
-  -- Which minimal patterns forbid what the rule forbids? A minimal pattern gives symbols to some of the cells that the rule reads at a node. No cell
-  -- can be left out of it.
+  -- Which minimal patterns forbid what the rule forbids? A minimal pattern gives symbols to some of the cells that the rule reads at a node, and
+  -- leaves the others out. No further cell can be left out of it.
   smallest : LocalRule → Asked
   -- are two maps between the subshifts of two rules inverse to each other?
   conjugacy : ConjugacyOf → Asked
@@ -37,10 +37,10 @@ pub data Asked : Type 0 where
   -- what is the least weight of the fundamental box, the box that repeats, over the configurations that obey the rule and have these periods and no
   -- shear?
   least : LocalRule → List ℕ → List ℕ → Asked
-  -- What is the best lower bound that a discharge shows? Each position first holds its weight, and then gives an amount along
-  -- each of the vectors. A bound is an amount that each position holds at least after that. The first number is the radius: the
-  -- pattern within this radius around a position determines what it gives. The second number is the margin: the region whose
-  -- fillings are examined is larger by the margin in every direction.
+  -- What is the best lower bound that a discharge shows for the rule's density? Each position first holds its weight. Then, along each of the
+  -- vectors, it gives an amount to the position at the vector's end. A bound is a number such that each position then holds at least this number. The
+  -- first number of the question is the radius: the pattern within this radius around a position determines what it gives. The second number is the
+  -- margin: in every direction, the region whose fillings are examined is enlarged by this much.
   discharge : LocalRule → ℕ → ℕ → List Place → List ℕ → Asked
 
 -- the question that a value of the code stands for
@@ -55,7 +55,8 @@ asked_of (question.Density rule strip weights) = density rule.now strip weights.
 asked_of (question.Least rule periods weights) = least rule.now periods weights.now
 asked_of (question.Discharge rule radius margin vectors weights) = discharge rule.now radius margin vectors.now weights.now
 
--- whether the question comes down to one or more box questions; for these, engines are asked to propose the outcome of a search
+-- whether the question comes down to one or more box questions; for such a question, engines (see dd_engines) are asked to propose the outcome of
+-- a search
 abbrev pub is_box_question : Asked → Bool
 is_box_question (membership x t) = false
 is_box_question (box x g) = true
@@ -79,7 +80,8 @@ IsFormed (density x strip ws) = IsRule x × IsStrip x strip × HasWeights x ws
 IsFormed (least x along ws) = IsRule x × AreTorusPeriods x.dimension x.nodes (periods_of along 0) × HasWeights x ws
 IsFormed (discharge x radius margin vs ws) = IsRule x × IsDischargeable x radius margin vs ws
 
--- the fault of the first part of the question, in this order, that doesn't fit those before it; memory may run out at any part
+-- the fault of the first part of the question that doesn't fit those before it; the parts come in the order in which `Asked` lists them, and memory
+-- may run out at any part
 pub data IsPartFault : Asked → QuestionFault → Type 0 where
   configuration_fault : {x : LocalRule} {t : Tile} → ¬ Fits x t → IsPartFault (membership x t) fault.Configuration
   symbols_fault : {x : LocalRule} {t : Tile} → Fits x t → ¬ HasAllowed x t → IsPartFault (membership x t) fault.Symbols

@@ -14,10 +14,10 @@ positions_in along = periods_volume (periods_of along 0)
 abbrev pub cells_in : LocalRule → List ℕ → ℕ
 cells_in x along = positions_in along * x.nodes
 
--- The number of clauses that ask for a fundamental box of less than a certain weight: the number of its cells times the greatest
--- of the weights ws. No box weighs more. The clauses are those of the torus, one more clause, and those of gates. For each cell,
--- and for each weight below that one, there are an And gate of two members for each symbol, and an Or gate over all these And
--- gates.
+-- An upper bound for the number of clauses that ask for a fundamental box of weight less than M. Here M is the number of its
+-- cells times the greatest of the weights ws; no box weighs more than M. The bound counts the clauses of the torus, those of
+-- gates, and one more. For each cell and each weight below M, it counts an And gate of two members for each symbol, and an Or
+-- gate over all these And gates.
 abbrev pub weight_clauses : LocalRule → List ℕ → List ℕ → ℕ
 weight_clauses x along ws =
     question_clauses x always (positions_in along) + cells_in x along * (cells_in x along * greatest ws * suc (4 * length ws)) + 1

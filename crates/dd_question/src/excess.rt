@@ -3,9 +3,9 @@
 /// A limit on its work that a question exceeds.
 #[derive(Clone, Copy, Debug, PartialEq, Eq)]
 pub enum Excess {
-    /// The search needs more than 2,000,000 clauses. For a box question, they are counted for the largest box or torus that a
-    /// search may try. For a least weight, they are counted for a bound on the weight: the number of cells of the fundamental box
-    /// times the greatest weight in the question.
+    /// The search may need more than 2,000,000 clauses. For a box question, they are counted for the largest box or torus that
+    /// a search may try. For a least weight, the clauses that are counted ask for a fundamental box of weight less than M. Here
+    /// M is the number of its cells times the greatest weight in the question.
     Clauses,
     /// At some node, the cells that the rule reads have more than 65,536 fillings. Each of them may be a forbidden pattern.
     Patterns,

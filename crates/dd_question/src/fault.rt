@@ -12,7 +12,8 @@ pub enum QuestionFault {
     /// pivots is over 100,000.
     #[error("the limits are out of range")]
     Limits,
-    /// The configuration has another dimension or another number of nodes than the rule, or a symbol outside the rule's alphabet.
+    /// The configuration differs from the rule in its dimension or its number of nodes, or it has a symbol outside the rule's
+    /// alphabet.
     #[error("the configuration doesn't fit the rule")]
     Configuration,
     /// The configuration has a symbol that its node doesn't allow.

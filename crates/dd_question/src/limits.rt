@@ -16,8 +16,7 @@ use crate::question::Question;
 use crate::tori::is_heavy;
 use dd_boxes::Goal;
 use dd_counts::{
-    MOST_LONGER_STATES, MOST_PATTERNS, MOST_STATES, longer_states, patterns, question_clauses,
-    states,
+    MOST_PATTERNS, MOST_STATES, MOST_WINDOWS, patterns, question_clauses, states, window_count,
 };
 use dd_formula::Rule;
 use dd_values::Limits;
@@ -72,7 +71,7 @@ fn has_many_states(rule: &Rule, volume: u32) -> bool
     ensures { result ≡ has_many_states rule.now volume }
 {
     states(rule, volume, MOST_STATES) > MOST_STATES
-        || longer_states(rule, volume, MOST_LONGER_STATES) > MOST_LONGER_STATES
+        || window_count(rule, volume, MOST_WINDOWS) > MOST_WINDOWS
 }
 
 /// The number of positions of a slice of the strip.
@@ -85,7 +84,7 @@ fn strip_volume(strip: [u32; 2]) -> u32
 }
 
 impl Question<'_> {
-    /// The limit on its work that the question exceeds, if any. Box questions are searched within the given limits.
+    /// The limit on its work that the question exceeds, if any. A box question is answered by a search within the given limits.
     ///
     /// # Errors
     /// `AllocError` if memory runs out.

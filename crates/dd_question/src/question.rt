@@ -30,7 +30,8 @@ pub enum Question<'a> {
         rule: &'a Rule,
     },
     /// Which minimal patterns forbid what the rule forbids? A minimal pattern gives symbols to some of the cells that the rule
-    /// reads at a node. No cell can be left out of it. `dd_minimal` says which list of minimal patterns is the answer.
+    /// reads at a node, and leaves the others out. No further cell can be left out of it. `dd_minimal` says which list of
+    /// minimal patterns is the answer.
     Smallest {
         rule: &'a Rule,
     },
@@ -52,10 +53,10 @@ pub enum Question<'a> {
         periods: [u32; 3],
         weights: &'a [u32],
     },
-    /// What is the best lower bound that a discharge shows? In a discharge, each position first holds its weight, and then gives
-    /// an amount along each of the vectors. The pattern within `radius` around a position determines what it gives. A bound is an
-    /// amount that each position holds at least after that. The region whose fillings are examined is larger by `margin` in every
-    /// direction.
+    /// What is the best lower bound that a discharge shows for the rule's density? In a discharge, each position first holds
+    /// its weight. Then, along each of the vectors, it gives an amount to the position at the vector's end. The pattern within
+    /// `radius` around a position determines what it gives. A bound is a number such that each position then holds at least
+    /// this number. In every direction, the region whose fillings are examined is enlarged by `margin`.
     Discharge {
         rule: &'a Rule,
         radius: u32,

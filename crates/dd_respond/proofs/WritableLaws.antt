@@ -1,4 +1,5 @@
--- An output can hold each decision of a box question and each decision about an equality: the steps of a YES are a refutation.
+-- An output can hold each decision of a box question and each decision about equality: the steps of a YES are a refutation, with few enough
+-- variables, clauses and steps.
 use Rattle.std.proofs.Common.{◌≡◌, ℕ, ◌+◌, ◌≤◌, true, List, length, sym, subst}
 use Rattle.dd_values.specs.Bounds.{most_variables}
 use Rattle.dd_clause.specs.declared.clause.Literal.{Literal}

@@ -7,15 +7,15 @@ use Rattle.dd_question.specs.Questions.{Asked, is_box_question}
 abbrev pub IsBoxQuestion : Asked → Type 0
 IsBoxQuestion k = IsTrue (is_box_question k)
 
--- The engines before and after a call. If engines are asked, as `asks` says, and any engine is left, the first of them was asked. All engines that
--- stood ahead of it were dropped, and none of these was sound. If no engine is asked, the roster is unchanged.
+-- The engines before and after a call. If `asks` holds and engines are left, the first of them was asked. All engines that stood ahead of it were
+-- dropped, and none of these was sound. If `asks` doesn't hold, the roster is unchanged.
 pub record Engages (asks : Type 0) (before after : List Seen) : Type 0 where
   pub first : asks → FirstAsked before after
   pub nobody : (asks → ⊥) → after ≡ before
 
--- the engines before and after a call that asks them exactly if `asks` holds
+-- the engines before and after a call that asks them exactly when `asks` holds
 pub record AreEngaged {T E : Type 0} (asks : Type 0) (before after : List Seen) (result : Result T E) : Type 0 where
   -- the sound engines are still there, in order, and no engine's counts of questions and proposals have fallen
   pub kept : Kept before after
-  -- On success: if `asks` holds, the first engine that is left, if any, was asked. If `asks` doesn't hold, no engine was asked.
+  -- On success: if `asks` holds and engines are left, the first of them was asked. If `asks` doesn't hold, the roster is unchanged.
   pub asked : OnOk result (Engages asks before after)

@@ -1,4 +1,5 @@
--- Which answers about least densities and discharging are right.
+-- Which answers about least densities and discharging are right. A strip has periods along y and z, and no end along x. A configuration lives on the
+-- strip if it has these periods, any period along x and no shear, and obeys the rule everywhere.
 use Rattle.std.specs.Prelude.{ℕ, ℤ, List}
 use Rattle.dd_lattice.specs.Place.{Place}
 use Rattle.dd_formula.specs.LocalRule.{LocalRule}
@@ -33,14 +34,14 @@ pub data IsRightDensity (x : LocalRule) (strip ws : List ℕ) : Answer → Type 
 abbrev pub written_bound : Bound → Answer
 written_bound b = answer.Bound b.numerator b.denominator b.common b.amounts b.duals
 
--- the reason that UNKNOWN gives for each fault of a discharge; lack of memory has none
+-- the reason that UNKNOWN gives for each fault of a discharge, except for lack of memory, which gives no answer
 pub data IsReasonOf : DischargeFault → Reason → Type 0 where
   for_large : IsReasonOf fault.Large reason.Large
   for_overflow : IsReasonOf fault.Overflow reason.Overflow
   for_pivots : IsReasonOf fault.Pivots reason.Pivots
 
--- If the run of the linear program ends with a bound, a right answer gives this bound, with evidence that it is the best. Otherwise a right answer is
--- UNKNOWN with the reason.
+-- If the simplex method ends with a bound, a right answer gives this bound, with evidence that it is the best. Otherwise a right answer is UNKNOWN,
+-- with the reason why no bound is found.
 pub data IsRightDischarge (x : LocalRule) (radius margin : ℕ) (vs : List Place) (ws : List ℕ) (pivots : ℕ) : Answer → Type 0 where
   right_bound : {p q n : ℕ} {amounts duals : List ℕ} → IsBoundOf x ws radius margin vs pivots (bound_claimed p q n amounts duals) →
       IsBoundCertificate x ws radius margin vs (bound_claimed p q n amounts duals) → IsRightDischarge x radius margin vs ws pivots (answer.Bound p q n amounts duals)

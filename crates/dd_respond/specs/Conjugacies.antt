@@ -13,7 +13,7 @@ use Rattle.dd_certificate.specs.declared.answer.Answer.TheVariants as answer
 use Rattle.dd_certificate.specs.declared.answer.Reason.TheVariants as reason
 use Rattle.dd_contain.specs.declared.decision.Decision.TheVariants as decision
 
--- the question with the number k has the decision d within the limits
+-- d is a right decision of the question with the number k, within the limits
 pub record ComesTo (l : Limits) (c : ConjugacyOf) (k : ℕ) (d : Decision) : Type 0 where
   pub premise : LocalRule
   pub goal : GoalOf

@@ -1,4 +1,4 @@
--- Which answers to questions are right. A box question has a rule, the premise, and a goal: a property of a position, such as
+-- Which answers to questions are right. A box question has a rule (its premise) and a goal: a property of a position, such as
 -- that another rule is broken there. It asks whether no configuration that obeys the premise has the goal at any position.
 use Rattle.std.specs.{Prelude.◌≡◌, Prelude.Bool, Prelude.nat_eq, Prelude.codes, List.starts_with}
 use Rattle.dd_pattern.specs.Tile.{Tile}
@@ -21,7 +21,8 @@ use Rattle.dd_question.specs.Questions as asked
 
 -- ---- box questions
 
--- the answer NO with a configuration: its periods along the axes of Z^d, its shear and its symbols
+-- The answer NO with a configuration: its periods along the axes of Z^d, its shear and its symbols. The shear is how far the second period vector
+-- goes along the first axis. The symbols are those of the fundamental box, the box that repeats.
 abbrev pub written_no : Side → Tile → Answer
 written_no s t = answer.No s (written_periods t) t.periods.shear t.symbols
 
@@ -31,24 +32,24 @@ written_decision (decision.Yes n steps) = answer.Yes n steps
 written_decision (decision.No t) = written_no side.Whole t
 written_decision decision.Unknown = answer.Unknown reason.Limits
 
--- the side that an answer names for this half of an equality
+-- the side that the answer NO to a question about equality names: that of the rule that the configuration obeys
 abbrev pub side_of : Half → Side
 side_of half.Left = side.Left
 side_of half.Right = side.Right
 
--- the answer that the decision about an equality gives
+-- the answer that a decision about equality gives
 abbrev pub written_equality : Equality → Answer
 written_equality (equal.Yes left right) = answer.YesBoth left.radius right.radius left.steps right.steps
 written_equality (equal.No h t) = written_no (side_of h) t
 written_equality equal.Unknown = answer.Unknown reason.Limits
 
--- the answer is a right one to the box question with the premise x and the goal g, within the limits
+-- this is a right answer to the box question with the premise x and the goal g, within the limits
 pub record IsRightBox (l : Limits) (x : LocalRule) (g : GoalOf) (a : Answer) : Type 0 where
   pub decision : Decision
   pub decided : IsDecided x g l.radius l.period decision
   pub written : a ≡ written_decision decision
 
--- the answer is a right one to the question whether x and y allow the same configurations, within the limits
+-- this is a right answer to the question whether x and y allow the same configurations, within the limits
 pub record IsRightEqual (l : Limits) (x y : LocalRule) (a : Answer) : Type 0 where
   pub decision : Equality
   pub decided : IsEqualDecided x y l.radius l.period decision
@@ -56,7 +57,7 @@ pub record IsRightEqual (l : Limits) (x y : LocalRule) (a : Answer) : Type 0 whe
 
 -- ---- all questions
 
--- the answer is a right one to the question, within these limits
+-- this is a right answer to the question, within these limits
 abbrev pub IsRightTo : Limits → Asked → Answer → Type 0
 IsRightTo l (asked.membership x t) a = IsMemberCertificate x t a
 IsRightTo l (asked.box x g) a = IsRightBox l x g a

@@ -10,7 +10,7 @@ IsWritableDecision (decision.Yes n steps) = IsWritableRefutation steps
 IsWritableDecision (decision.No t) = Unit {0}
 IsWritableDecision decision.Unknown = Unit {0}
 
--- an output can hold the evidence of the decision about an equality: the steps of both sides of a YES
+-- an output can hold the evidence of the decision about equality: the steps of both sides of a YES
 abbrev pub IsWritableEquality : Equality → Type 0
 IsWritableEquality (equality.Yes left right) = IsWritableRefutation left.steps × IsWritableRefutation right.steps
 IsWritableEquality (equality.No h t) = Unit {0}

@@ -1,4 +1,4 @@
-//! Answers to box questions, and to the question whether two rules allow the same configurations.
+//! Answers to box questions, and to questions about equality: whether two rules allow the same configurations.
 ghost use Rattle.std.specs.Prelude.{◌≡◌, All, IfOk};
 ghost use Rattle.dd_boxes.specs.Goals.{breaks};
 ghost use Rattle.dd_boxes.specs.Views.{goal_of};
@@ -28,7 +28,8 @@ pub(crate) fn widened(alloc: Global, numbers: &[u32]) -> Result<Items<u64>, Allo
     Ok(Items::from_vec(wide))
 }
 
-/// The answer NO with a configuration: its periods along the axes of Z^d, its shear and its symbols.
+/// The answer NO with a configuration: its periods along the axes of Z^d, its shear and its symbols. The shear is how far the
+/// second period vector goes along the first axis. The symbols are those of the fundamental box, the box that repeats.
 fn written_no(alloc: Global, side: Side, periodic: &Periodic) -> Result<Answer, AllocError>
     ensures same { IfOk result (λ answer. answer ≡ written_no side periodic.now) }
     ensures writable { IfOk result IsWritable }
@@ -62,7 +63,7 @@ fn written_decision(alloc: Global, decision: Decision) -> Result<Answer, AllocEr
     }
 }
 
-/// The side that an answer names for this half of an equality.
+/// The side that the answer NO to a question about equality names: that of the rule that the configuration obeys.
 fn side_of(half: Half) -> Side
     ensures { result ≡ side_of half }
 {
@@ -72,7 +73,7 @@ fn side_of(half: Half) -> Side
     }
 }
 
-/// The answer that the decision about an equality gives.
+/// The answer that a decision about equality gives.
 fn written_equality(alloc: Global, equality: Equality) -> Result<Answer, AllocError>
     requires { IsWritableEquality equality }
     ensures same { IfOk result (λ answer. answer ≡ written_equality equality) }
@@ -92,7 +93,7 @@ fn written_equality(alloc: Global, equality: Equality) -> Result<Answer, AllocEr
     }
 }
 
-/// The answer to a box question within the limits. The engines of the roster are asked first.
+/// The answer to a box question within the limits. The roster is used as in `decide` of `dd_contain`.
 pub(crate) fn decided<E: Engine>(
     alloc: Global,
     premise: &Rule,
@@ -111,8 +112,8 @@ pub(crate) fn decided<E: Engine>(
     written_decision(alloc, decision)
 }
 
-/// The answer to the question whether two rules allow the same configurations, within the limits. The engines of
-/// the roster are asked first.
+/// The answer to the question whether two rules allow the same configurations, within the limits. The roster is used as in
+/// `decide` of `dd_contain`.
 pub(crate) fn compared<E: Engine>(
     alloc: Global,
     left: &Rule,

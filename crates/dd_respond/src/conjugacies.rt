@@ -24,9 +24,9 @@ use std::alloc::{AllocError, Global};
 /// The answers so far, none of them NO.
 #[derive(Drop)]
 struct Findings {
-    /// The radius of each YES.
+    /// For each YES, the radius of the box that shows it.
     radii: Items<u64>,
-    /// The steps of each YES.
+    /// For each YES, the steps that refute the clauses of its box.
     steps: Items<Items<Step>>,
     /// Whether the limits left some question undecided.
     is_open: bool,
@@ -65,7 +65,7 @@ impl Findings {
     }
 }
 
-/// Decides the question with this number. The engines of the roster are asked first.
+/// Decides the question with this number. The roster is used as in `decide` of `dd_contain`.
 fn part_decided<E: Engine>(
     alloc: Global,
     conjugacy: &Conjugacy,
@@ -87,8 +87,8 @@ fn part_decided<E: Engine>(
     }
 }
 
-/// The first of the four questions that is answered NO; later ones are not decided. `None` if there is no such question; then
-/// `findings` has the answers to all four.
+/// The first of the four questions that is answered NO. Later questions are not decided. The result is `None` if no question is
+/// answered NO. Then `findings` has the answers to all four.
 fn first_failed<E: Engine>(
     alloc: Global,
     conjugacy: &Conjugacy,
@@ -148,8 +148,8 @@ fn written_findings(findings: Findings) -> Answer
     }
 }
 
-/// The answer to the question whether two maps between two subshifts are inverse to each other, within the limits. The engines of
-/// the roster are asked first.
+/// The answer to the question whether two maps between two subshifts are inverse to each other, within the limits. The roster
+/// is used as in `decide` of `dd_contain`.
 pub(crate) fn conjugate<E: Engine>(
     alloc: Global,
     conjugacy: &Conjugacy,

@@ -1,5 +1,7 @@
-//! Answers to questions about discharging: how much does each position hold at least, after each has sent amounts along given
-//! vectors?
+//! Answers to questions about discharging. In a discharge, each position first holds its weight. Then, along each of some
+//! vectors, it gives an amount to the position at the vector's end. The pattern around the giver determines the amount. A bound
+//! is a number such that each position then holds at least this number. The best bound, over all such discharges, is the value
+//! of a linear program (see `dd_discharge`).
 ghost use Rattle.std.specs.Prelude.{◌≡◌, IfOk};
 ghost use Rattle.dd_certificate.specs.Bounds.{IsWritable};
 ghost use Rattle.dd_discharge.specs.Printed.{IsSmallBound};
@@ -40,7 +42,8 @@ fn reason_of(fault: DischargeFault) -> Result<Reason, AllocError>
     }
 }
 
-/// The best bound of a discharge with its evidence, or the reason why there is none.
+/// The best bound over all discharges along the vectors, with its evidence. If no bound is found, the answer is UNKNOWN with
+/// the reason.
 pub(crate) fn discharged(
     alloc: Global,
     rule: &Rule,

@@ -9,8 +9,9 @@ use dd_discharge::one_outcome;
 use dd_evidence::{one_list, one_starred};
 use dd_strips::one_density;
 
-/// Does nothing. Its contract says that all right answers to a sound question within the same limits have the same first line of
-/// text. They differ only in their evidence.
+/// Does nothing. Its contract says that all right answers to a sound question within the same limits have the same first line
+/// of text. They differ only in their evidence. A question is sound if its parts fit together and it exceeds no limit on its
+/// work.
 pub fn one_response()
     ensures { (limits : AnyLimits) (question : Asked) (a b : AnyAnswer) → IsSoundAsked limits question → IsRightTo limits question a →
         IsRightTo limits question b → SayTheSame a b }

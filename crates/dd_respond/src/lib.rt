@@ -1,10 +1,14 @@
 //! Finds right answers to questions about rules. All right answers to a question have the same first line, and differ only in
 //! their evidence.
 //!
-//! Some questions come down to box questions. A box question has a rule, the premise, and a goal: a property of a position, such
-//! as that another rule is broken there. It asks whether no configuration that obeys the premise has the goal at any position.
-//! For box questions, the engines of a roster, a list of engines, are asked before a search. An engine is any value that proposes
-//! a result of the search. It is sound if all that it proposes is right.
+//! Some questions come down to box questions. A box question has a rule (its premise) and a goal: a property of a position,
+//! such as that another rule is broken there. It asks whether no configuration that obeys the premise has the goal at any
+//! position. To answer it, a search goes through boxes of growing radius, and then through tori of growing volume (see
+//! `dd_contain`). Each box and each torus becomes a list of clauses.
+//!
+//! An engine is any value that, for a list of clauses, proposes an assignment that satisfies them, or a refutation. It is sound
+//! if all that it proposes is right. A list of engines is called a roster. In the search, the engines of a roster are asked
+//! about each list of clauses. If none of them makes a right proposal, a solver decides.
 #![tactic(auto)]
 
 mod boxes;

@@ -9,7 +9,7 @@ use dd_evidence::{forbidden_patterns, lists_fit};
 use dd_formula::Rule;
 use std::alloc::{AllocError, Global};
 
-/// The list of the patterns that a rule forbids.
+/// The list of all the patterns that a rule forbids. Such a pattern has a symbol for each cell that the rule reads at a node.
 #[tactic(auto, using(dd_evidence::specs::Answers::all_forbidden))]
 pub(crate) fn listed(alloc: Global, rule: &Rule) -> Result<Answer, AllocError>
     requires { HasFewPatterns rule.now }

@@ -1,4 +1,4 @@
-//! Answers to questions about membership.
+//! Answers to questions about membership. A cell is a position of Z^d with one of its nodes, which are numbered from 0.
 ghost use Rattle.std.specs.Prelude.{◌≡◌, ◌≤◌, IfOk};
 ghost use Rattle.dd_formula.specs.Living.{Fits};
 ghost use Rattle.dd_certificate.specs.Bounds.{IsWritable};
@@ -13,7 +13,7 @@ use dd_pattern::Periodic;
 use dd_values::Items;
 use std::alloc::{AllocError, Global};
 
-/// The coordinates of a cell along the axes of Z^d, followed by its node.
+/// The coordinates of a cell's position along the axes of Z^d, followed by the number of the cell's node.
 fn written_cell(alloc: Global, dim: u32, cell: &Cell) -> Result<Items<i64>, AllocError>
     requires { dim ≤ 3 }
     ensures { IfOk result (λ place. place ≡ written_cell dim cell.now) }
@@ -29,8 +29,9 @@ fn written_cell(alloc: Global, dim: u32, cell: &Cell) -> Result<Items<i64>, Allo
     Ok(place)
 }
 
-/// The answer to the question whether a configuration lives in a rule's subshift: whether it obeys the rule at every cell. If it
-/// doesn't, the answer names the first cell at which the rule is false.
+/// The answer to the question whether a configuration lives in a rule's subshift: whether it obeys the rule at every cell. If
+/// it doesn't, the answer names the first cell of the fundamental box, in cell order (by z, then y, then x, then the node), at
+/// which the rule is false.
 #[tactic(auto, using(dd_evidence::specs::Answers::member_inside, dd_evidence::specs::Answers::member_outside))]
 pub(crate) fn member(alloc: Global, rule: &Rule, periodic: &Periodic) -> Result<Answer, AllocError>
     requires { Fits rule.now periodic.now }

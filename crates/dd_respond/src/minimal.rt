@@ -9,7 +9,9 @@ use dd_evidence::{minimal_patterns, starred_fit};
 use dd_formula::Rule;
 use std::alloc::{AllocError, Global};
 
-/// The list of the minimal patterns that a rule forbids.
+/// Minimal patterns that together forbid exactly what a rule forbids. A minimal pattern gives symbols to some of the cells that
+/// the rule reads at a node, and no further cell can be left out of it. The rule may have other minimal patterns, which aren't
+/// listed.
 #[tactic(auto, using(dd_evidence::specs::Answers::all_minimal))]
 pub(crate) fn smallest(alloc: Global, rule: &Rule) -> Result<Answer, AllocError>
     requires { HasFewPatterns rule.now }

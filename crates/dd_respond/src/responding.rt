@@ -1,4 +1,4 @@
-//! The answer to a question, by its kind.
+//! The answer to a question of any kind.
 ghost use Rattle.std.specs.Prelude.{IfOk, OnOk};
 ghost use Rattle.dd_certificate.specs.Bounds.{IsWritable};
 ghost use Rattle.dd_engines.specs.Rosters.{roster_seen};
@@ -19,7 +19,7 @@ use dd_engines::{Engine, Roster, kept_is_reflexive};
 use dd_question::{CheckedQuestion, Question};
 use std::alloc::{AllocError, Global};
 
-/// A right answer to a question, by its kind.
+/// A right answer to a question. Each kind of question has its own function.
 fn by_kind<E: Engine>(
     alloc: Global,
     question: &CheckedQuestion,
@@ -63,11 +63,11 @@ fn by_kind<E: Engine>(
     }
 }
 
-/// A right answer to a question, within the question's limits. It is one that an output can hold: each of its numbers and lists is
-/// within its bounds.
+/// A right answer to a question, within the question's limits. An output can hold the answer: each number and each list in it
+/// is within its bounds.
 ///
-/// If the question comes down to box questions, the engines of the roster are asked, as in `decide` of `dd_contain`. For other
-/// questions no engine is asked. The sound engines stay in the roster.
+/// If the question comes down to box questions, the roster is used as in `decide` of `dd_contain`. For other questions no
+/// engine is asked. The sound engines stay in the roster.
 pub fn respond<E: Engine>(
     alloc: Global,
     question: &CheckedQuestion,

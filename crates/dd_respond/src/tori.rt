@@ -1,4 +1,5 @@
-//! Answers to questions about the least weight of a fundamental box, the box that repeats in a periodic configuration.
+//! Answers to questions about the least weight of a fundamental box, the box that repeats in a periodic configuration. The
+//! configurations have no shear here: each period vector lies along its own axis.
 ghost use Rattle.std.specs.Prelude.{◌≡◌, IfOk};
 ghost use Rattle.dd_certificate.specs.Bounds.{IsWritable};
 ghost use Rattle.dd_counter.specs.Least.{IsLeast};
@@ -14,7 +15,7 @@ use std::alloc::{AllocError, Global};
 
 /// The answer that a least weight gives. It has a configuration of this weight, and steps that refute smaller weights; if the
 /// weight is 0, there are no steps. If no configuration of the given periods lives in the rule's subshift, the answer has steps
-/// that refute that there is one.
+/// that show this.
 fn written_weight(alloc: Global, found: LeastWeight) -> Result<Answer, AllocError>
     ensures { IfOk result (λ answer. answer ≡ written_weight found) }
 {

@@ -1,4 +1,4 @@
--- Cells chosen by their numbers.
+-- Cells chosen by the numbers that a list gives them.
 use Rattle.std.proofs.Common.{◌≡◌, ◌<◌, ◌≤◌, ◌+◌, pos, ℕ, zero, suc, Bool, true, false, cond, List, [], ◌∷◌, ◌++◌, length, get_or, map, take, refl, sym, ◌∙◌, ap, arith}
 use Rattle.std.proofs.{Math.ListN.set, lemmas.Bool.eq-eqb, lemmas.Bool.ne_eqb, lemmas.Bool.false≢true, lemmas.List.append-nil}
 use Rattle.std.proofs.lemmas.List.FromFn.{get_or-map-range_with_len}

@@ -36,7 +36,7 @@ folded_next {A} {B} g start f xs i d old new below before at is =
     ∙ (sym (fold_push g start (map f (take i xs)) (f d))
     ∙ ap (fold g start) (ap (λ e. map f (take i xs) ++ f e ∷ []) at ∙ sym (map_more f xs i d below))))
 
--- a list that each step keeps or makes longer
+-- a list that no step makes shorter
 module _ {A Y : Type 0} (g : List Y → A → List Y) (grows : (ys : List Y) (a : A) → length ys ≤ length (g ys a)) where
   pub fold_grows : (ys : List Y) (more : List A) → length ys ≤ length (fold g ys more)
   fold_grows ys [] = omega arith

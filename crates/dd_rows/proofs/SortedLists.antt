@@ -115,7 +115,7 @@ module _ {K : Type 0} {R : K → K → Ordering} (o : IsTotalOrder R) (ks slice 
   pub ascends_still : (k : K) (new : List K) → new ≡ insert_key R now k → IsStrictlySortedBy R new
   ascends_still k new is = subst (IsStrictlySortedBy R) (sym is) (insert_ascends o now k (subst (IsStrictlySortedBy R) view up))
 
--- an insertion loses no key
+-- an insertion doesn't make the list shorter
 longer_from : {K : Type 0} (x k : K) (ks more : List K) (r : Ordering) → length ks ≤ length more → length (x ∷ ks) ≤ length (match_ordering r (k ∷ x ∷ ks) (x ∷ ks) (x ∷ more))
 longer_from x k ks more Less h = omega arith
 longer_from x k ks more Equal h = omega arith

@@ -1,4 +1,4 @@
--- Two rows of one program are the same if they have the same bound and the same exchange along each vector.
+-- Two rows of one program are the same exactly when they have the same bound and the same exchange along each vector.
 use Rattle.std.proofs.Common.{◌≡◌, ◌<◌, ◌≤◌, ◌+◌, ◌*◌, ℕ, zero, suc, Bool, true, false, cond, List, [], ◌∷◌, ◌++◌, length, get_or, map, take, drop, refl, sym, ◌∙◌, ap, subst, inl, inr, arith, ℤ, pos, Option, Some, None, replicate}
 use Rattle.std.proofs.lemmas.Option.{same_Some}
 use Rattle.std.proofs.lemmas.Bool.{false≢true, and_parts, and_from, cases_lt, cases_eq, eq-eqb, eqb-true}
@@ -60,7 +60,7 @@ same_first p a b c d agree most most' apart apart' = elim (cases_lt a p) [
 same_pair : (e f : Exchange) → e.gives ≡ f.gives → e.receives ≡ f.receives → e ≡ f
 same_pair e f given received = λ i. record { gives = given i; receives = received i }
 
--- the exchange of two different patterns is not 0 everywhere
+-- an exchange of two different patterns has an entry that is not 0
 some_one : (p c d : ℕ) → ((k : ℕ) → k < p → pos 0 ≡ (one_at k c -ℤ one_at k d)) → c ≤ p → d ≤ p → (c ≡ d → ⊥) → ⊥
 some_one p c d zeros most most' apart = elim (cases_lt c p) [
   | inl below ↦
@@ -260,7 +260,7 @@ module _ (ps : List (List ℕ)) (v : Views) (ws : List ℕ) (most : ℕ) where
   rows_begin old new cap none is bound w =
       w.rows ∙ (ap (λ rs. add_row (map (dense (length ps)) rs) (dense (length ps) cap)) none ∙ ap (λ (r : Row). r ∷ []) (cap_stands (length v.givers) (length ps) most cap is bound))
 
-  -- the first row alone is not too many
+  -- the first row alone is within the limit on rows
   pub first_fits : (old : List SparseRow) (cap : SparseRow) → old ≡ [] → most_rows < length (add_row (map (dense (length ps)) old) (dense (length ps) cap)) → ⊥
   first_fits old cap none many =
       let size : length (add_row (map (dense (length ps)) old) (dense (length ps) cap)) ≡ 1 = ap (λ rs. length (add_row (map (dense (length ps)) rs) (dense (length ps) cap))) none in
@@ -282,7 +282,7 @@ module _ (ps : List (List ℕ)) (v : Views) (ws : List ℕ) (most : ℕ) where
       (folded_next add_row begun (required_row ps v ws) lists i d (map (dense (length ps)) old) new below before at (ap (add_row (map (dense (length ps)) old)) stands))
       many
 
--- two sparse rows pass the test exactly if they are the same
+-- two sparse rows pass the test `same_sparse` exactly when they are the same
 abbrev pub same_exchange_test : Exchange → Exchange → Bool
 same_exchange_test e f = nat_eq e.gives f.gives && nat_eq e.receives f.receives
 

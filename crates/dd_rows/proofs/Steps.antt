@@ -47,7 +47,7 @@ extended_grows x q a ss n (suc k) =
     let split = length-append (extended_below x q a ss (n + k)) (cond (rule_allows x a (n + k)) (cond (q (ss ++ (n + k) ∷ [])) ((ss ++ (n + k) ∷ []) ∷ []) []) []) in
     omega (arith, even, before, more, split)
 
--- one more symbol that is allowed and with which the rule is true
+-- one more symbol that is allowed and with which the list passes the test
 pub extended_kept : (x : LocalRule) (q : List ℕ → Bool) (a : ℕ) (ss new : List ℕ) (n m : ℕ) → m ≡ suc n → rule_allows x a n ≡ true → new ≡ ss ++ n ∷ [] →
     q new ≡ true → extended_below x q a ss m ≡ extended_below x q a ss n ++ new ∷ []
 extended_kept x q a ss new n m next allowed is kept =
@@ -57,7 +57,7 @@ extended_kept x q a ss new n m next allowed is kept =
     ∙ (ap (λ (ts : List ℕ). extended_below x q a ss n ++ cond (q ts) (ts ∷ []) []) (sym is)
     ∙ ap (λ b. extended_below x q a ss n ++ cond b (new ∷ []) []) kept)))
 
--- one more symbol that is allowed, but with which the rule is false
+-- one more symbol that is allowed, but with which the list fails the test
 pub extended_cut : (x : LocalRule) (q : List ℕ → Bool) (a : ℕ) (ss new : List ℕ) (n m : ℕ) → m ≡ suc n → rule_allows x a n ≡ true → new ≡ ss ++ n ∷ [] →
     q new ≡ false → extended_below x q a ss m ≡ extended_below x q a ss n
 extended_cut x q a ss new n m next allowed is cut =
@@ -75,7 +75,7 @@ extended_barred x q a ss n m next barred =
     ∙ (extended_one x q a ss n
     ∙ (ap (λ b. extended_below x q a ss n ++ cond b (cond (q (ss ++ n ∷ [])) ((ss ++ n ∷ []) ∷ []) []) []) barred ∙ append-nil (extended_below x q a ss n)))
 
--- the first items of a list, up to and including one of them, give no more results than all of its items
+-- the first items of a list, up to and including the item at i, give at most as many results as all of its items
 pub flat_map_grows : {X Y : Type 0} (f : X → List Y) (xs : List X) (i : ℕ) (d : X) → i < length xs → length (flat_map f (take i xs) ++ f (get_or xs i d)) ≤ length (flat_map f xs)
 flat_map_grows f xs i d below =
     let first = take (i + 1) xs in

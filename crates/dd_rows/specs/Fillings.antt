@@ -14,7 +14,7 @@ look_of cs ss = filling_look (filled cs ss)
 abbrev pub allowed_symbols : LocalRule → ℕ → List ℕ
 allowed_symbols x a = filter (rule_allows x a) (range_with_len 0 x.symbols)
 
--- all lists of symbols, one for each cell, that the nodes of the cells allow
+-- all lists that have, for each cell, one symbol that the cell's node allows
 abbrev pub words : LocalRule → List Cell → List (List ℕ)
 words x [] = [] ∷ []
 words x (c ∷ cs) = flat_map (λ s. map (λ ss. s ∷ ss) (words x cs)) (allowed_symbols x c.node)

@@ -6,7 +6,7 @@ use Rattle.dd_formula.specs.LocalRule.{LocalRule}
 use Rattle.dd_boxes.specs.Fillings.{Admissible}
 use Rattle.dd_rows.specs.Fillings.{look_of, words, fillings}
 
--- each is a cell of Z^d, with one of the rule's nodes
+-- each cell of the list is a cell of Z^d, with one of the rule's nodes
 pub record AreCellsOf (x : LocalRule) (cs : List Cell) : Type 0 where
   pub flat : All (λ c. is_flat x.dimension c.position ≡ true) cs
   pub nodes : All (λ c. c.node < x.nodes) cs

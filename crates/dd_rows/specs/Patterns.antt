@@ -26,7 +26,7 @@ patterns_in box vs look = pattern_at box look origin ∷ givers box vs look
 abbrev pub in_lexicographic_order : List (List ℕ) → List (List ℕ)
 in_lexicographic_order lists = fold (insert_key (slice_cmp nat_cmp)) [] lists
 
--- the patterns that occur in some admissible filling of the cells
+-- the patterns that occur around the origin, or around a position that gives to it, in some admissible filling of the cells
 abbrev pub patterns : LocalRule → ℕ → List Place → List Cell → List (List ℕ)
 patterns x radius vs cs = in_lexicographic_order (flat_map (λ ss. patterns_in (box_cells x radius) vs (look_of cs ss)) (fillings x cs))
 

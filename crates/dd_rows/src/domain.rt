@@ -1,6 +1,6 @@
-//! The ground of a discharge: the cells whose fillings it looks at. The ground is the domain grown by the margin: its
-//! positions are those that are, along each axis, at most the margin away from a position of the domain. The domain is made of
-//! the boxes around the origin and around the positions that give to it.
+//! The ground of a discharge: the cells whose fillings it looks at. The domain is made of the boxes around the origin and
+//! around the positions that give to it. The ground is the domain grown by the margin: its positions are those that are, along
+//! each axis, at most the margin away from a position of the domain.
 ghost use Rattle.std.specs.Prelude.{◌≡◌, ◌<◌, ◌≤◌, IfOk, IfErr, [], All};
 ghost use Rattle.std.specs.List.Sorted.{IsStrictlySortedBy};
 ghost use Rattle.dd_values.specs.Bounds.{widest_radius};
@@ -89,7 +89,7 @@ pub(crate) fn box_cells(alloc: Global, rule: &Rule, radius: u32) -> Result<Items
     Ok(cells)
 }
 
-/// The cells of the ground, which is the domain grown by the margin, in cell order. Fails only if memory runs out.
+/// The cells of the ground, in cell order. The ground is the domain grown by the margin. Fails only if memory runs out.
 pub fn ground(
     alloc: Global,
     rule: &Rule,

@@ -125,7 +125,7 @@ before_blank_at_0 ys = refl
 before_line_feed_at_0 : (ys : List ℕ) → tokens_after 0 0 (turn ++ 10 ∷ ys) ≡ with_front (four 0) (tokens_after 0 8 (10 ∷ ys))
 before_line_feed_at_0 ys = refl
 
--- if the tokens of a turn and these bytes are known at place 0, they are known at any place
+-- if a turn followed by these bytes has its four tokens at place 0, it has them at any place
 one_turn : (place : ℕ) (zs : List ℕ) → tokens_after 0 0 (turn ++ zs) ≡ with_front (four 0) (tokens_after 0 8 zs)
     → tokens_after 0 place (turn ++ zs) ≡ with_front (four place) (tokens_after 0 (place + 8) zs)
 one_turn place zs at_0 =

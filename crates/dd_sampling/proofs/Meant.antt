@@ -89,7 +89,7 @@ zero_expanded = leaf 0 (at 0 0)
 abbrev pub dom_expanded : Expanded
 dom_expanded = any_of (leaf 1 below ∷ leaf 1 left_of ∷ leaf 1 (at 0 0) ∷ leaf 1 (at 1 0) ∷ leaf 1 (at 0 1) ∷ [])
 
--- ---- expansions and what is counted about them: all are folds, unfolded here by one layer
+-- ---- expansions, their counts, and the cells that formulas read: all are folds, unfolded here by one layer
 
 symbol_expansion : (es : List Edge) (n : ℕ) (t : Term) (s : ℕ) (env : List Cell) → expansion es n (roll-Formula (Formula-F.Symbol t s)) env ≡ at_cell (leaf s) (cell_of es env t)
 symbol_expansion es n t s env = ap (λ (e : Expansion). e env) (fold-roll-Formula Expansion (expansion_step es n) (Formula-F.Symbol t s))
@@ -155,7 +155,7 @@ or_clauses es = fold-roll-Expanded ℕ clause_count_step (Expanded-F.Or es)
 
 ruleset gates = (leaf_clauses, not_clauses, and_clauses, or_clauses)
 
--- ---- the counts of a rule: its expansion, how many parts and clauses the expansion has, and the cells that the rule reads
+-- ---- for each rule: its expansion, how many parts and clauses the expansion has, and the cells that the rule reads
 pub record Counts (f : Formula) (e : Expanded) (nodes clauses : ℕ) (cells : List Cell) : Type 0 where
   pub expanded : expansion_at (plain_rule f) 0 ≡ e
   pub nodes_are : instances e ≡ nodes

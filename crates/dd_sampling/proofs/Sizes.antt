@@ -7,7 +7,7 @@ use Rattle.dd_expansion.specs.declared.{formulas.Formula.Formula, expanded.Expan
 use Rattle.dd_expansion.specs.Leaves.{instances, clause_count}
 use Rattle.dd_formula.specs.{LocalRule.LocalRule, LocalRule.reads_at, LocalRule.expansion_at, LocalRule.is_near, Reach.farthest}
 use Rattle.dd_formula.specs.Counts.{cell_clause_count, disallowed_pairs, largest_region}
-use Rattle.dd_counts.specs.Rules.{greatest_x, least_x, most_states, most_longer_states}
+use Rattle.dd_counts.specs.Rules.{greatest_x, least_x, most_states, most_windows}
 use Rattle.dd_values.specs.declared.limits.Limits.{Limits}
 use Rattle.dd_boxes.specs.{Goals.breaks, Counts.most_clauses}
 use Rattle.dd_faults.specs.{declared.fault.Fault.Fault, Order.over}
@@ -69,8 +69,9 @@ dom_few = rule_faultless dom_counts refl
 
 -- ---- questions
 
--- A box question asks whether no configuration that obeys one rule, the premise, breaks another, the goal's rule. This is whether it has too many
--- clauses, computed from the premise, the numbers of clauses of the premise and of the goal's rule, and the cells that the goal's rule reads.
+-- A box question asks whether no configuration that obeys one rule, the premise, breaks another, the goal's rule. `long_by` says whether it has too
+-- many clauses. This is computed from the premise, the numbers of clauses of the premise and of the goal's rule, and the cells that the goal's
+-- rule reads.
 abbrev long_by : LocalRule → ℕ → ℕ → List Cell → Bool
 long_by x clauses goal cells =
     nat_lt most_clauses (largest_region x.dimension (max 3 (farthest (in_order cells ++ []))) 3 * (x.nodes * cell_clause_count x.symbols + disallowed_pairs x + (clauses + 0)) + (goal + 0 + 1))
@@ -100,7 +101,7 @@ span_by cells = unsigned_abs (greatest_x (pos 0) (in_order cells ++ []) -ℤ lea
 
 abbrev many_by : List Cell → Bool
 many_by cells =
-    nat_lt most_states ((2 ^ (1 * 5)) ^ max 1 (span_by cells - 1)) || nat_lt most_longer_states ((2 ^ (1 * 5)) ^ (max 1 (span_by cells - 1) + 1))
+    nat_lt most_states ((2 ^ (1 * 5)) ^ max 1 (span_by cells - 1)) || nat_lt most_windows ((2 ^ (1 * 5)) ^ (max 1 (span_by cells - 1) + 1))
 
 pub dom_narrow : has_many_states (plain_rule dom_meant) 5 ≡ false
 dom_narrow = ap many_by dom_counts.cells_are

@@ -34,7 +34,7 @@ use Rattle.dd_meanings.specs.declared.meaning.Meaning.TheVariants as meaning
 no_fault : (fs gs : List Fault) → fs ≡ [] → gs ≡ [] → option_or (first_fault fs) (option_or (first_fault gs) None) ≡ None
 no_fault fs gs first second = rw (first, second) refl
 
--- the same for a query: if its text has no fault and it exceeds no limit, it has no fault
+-- a query has no fault if its text has none and the query exceeds no limit
 no_excess : (fs : List Fault) (o : Option Excess) → fs ≡ [] → o ≡ None → option_or (first_fault fs) (option_or (first_fault []) (option_map (λ e. fault.Size (limit_of e)) o)) ≡ None
 no_excess fs o first second = rw (first, second) refl
 

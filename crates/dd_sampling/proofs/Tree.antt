@@ -1,4 +1,4 @@
--- The commands of a sample: its limits, its rules and its queries. Words and numbers are given by their positions in the text.
+-- The commands of a sample: its limits, its rules, its configuration and its queries. Words and numbers are given by their positions in the text.
 use Rattle.std.proofs.Common.{ℕ, List, [], ◌∷◌, ◌++◌, map, None}
 use Rattle.dd_written.specs.declared.lexeme.{Word.Word, Number.Number, Lexeme.Lexeme}
 use Rattle.dd_written.specs.declared.tree.{Term.Term, Atom.Atom, Ball.Ball}

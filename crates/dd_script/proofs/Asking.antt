@@ -1,4 +1,5 @@
--- What a query asks is well formed, since its rules, automata and configurations belong to the script.
+-- What a query asks is well formed, since the rules, automata and configurations that the query names belong to the script. It is sound, since it
+-- also exceeds no limit on its work.
 use Rattle.std.proofs.Common.{◌≡◌, ◌<◌, ◌%◌, List, [], get_or, ap, sym, subst, ◌∙◌, Some, None, Option, IfSome, arith}
 use Rattle.std.specs.{List.All, Prelude.unwrap_or, Option.option_and_then}
 use Rattle.std.proofs.lemmas.{List.Elements.All-contains}
@@ -23,13 +24,13 @@ module _ (k : Known) (x : LocalRule) (t : Tile) (rule : IsRuleOf k.setting x) (k
     symbols = subst (λ n. All (λ symbol. symbol < n) t.symbols) (sym rule.symbols) kept.symbols;
   }
 
-  -- place i of a configuration belongs to the node i % nodes, which allows the symbol there
+  -- cell i of a configuration is at the node i % nodes, which allows the symbol of the cell
   member_allowed : HasAllowed x t
   member_allowed = allowed_from_box x t kept.tile
       (λ i within. ap (λ rows. row_allows rows (i % t.nodes) (get_or t.symbols i 0)) rule.allowed ∙ kept.allowed i within)
 
 module _ (s : Parts) (ok : IsScriptOf s) where
-  -- a well-formed question about rules of the script
+  -- a well-formed question, whose rules are as `AreOf` says
   abbrev FitsIn : Asked → Type 0
   FitsIn a = IsFormed a × AreOf s.known a
 
@@ -84,7 +85,8 @@ module _ (s : Parts) (ok : IsScriptOf s) where
   pub question_fits : (q : Query) (a : Asked) → IsQueryWithin s.known q → ArePaired (comparisons_for s q) → asked s q ≡ Some a → FitsIn a
   question_fits q a within pairs is = subst (λ (o : Option Asked). IfSome o FitsIn) is (asked_fits q within pairs)
 
-  -- a question that exceeds no limit is sound
+  -- If each well-formed question that exceeds no limit on its work is sound, then each question that a query of the script asks is sound. The first
+  -- is the law that `sound_questions` of dd_question gives.
   pub questions_sound : ((l : Limits) (a : Asked) → IsFormed a → excess_of l a ≡ None → IsSoundAsked l a) → AreSound s
   questions_sound law q a there is =
       let of = All-contains (IsQueryOf s) s.queries q ok.queries there in

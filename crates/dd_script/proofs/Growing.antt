@@ -8,7 +8,7 @@ use Rattle.dd_script.specs.Parts.{Parts, LocalRule, Automaton, Tile, Query}
 use Rattle.dd_script.specs.Questions.{asked, comparisons_for}
 use Rattle.dd_script.specs.Kept.{IsQueryOf, AreNamed, IsScriptOf, IsAutomatonOf, IsQueryWithin, IsRuleOf, IsConfigurationOf}
 
--- a longer list of named items, which begins with the old ones
+-- a list of items with these names, and P holds of each item; the list begins with the old items, and may have more
 pub record Grown {X : Type 0} (P : X → Type 0) (old : List X) (names : List (List ℕ)) (xs : List X) : Type 0 where
   pub are : AreNamed P names xs
   pub more : length old ≤ length xs
@@ -39,7 +39,8 @@ module _ (s : Parts) (is : IsScriptOf s) {R A C : List (List ℕ)} {rs : List Lo
         within_limits = ap (option_and_then (excess_of s.known.limits)) same.1 ∙ of.within_limits;
       }
 
-  -- what holds of a script still holds with more definitions, if all its queries could be asked before these
+  -- what holds of a script still holds with these definitions and the queries qs, if each of these queries could already be asked with the old
+  -- definitions
   pub more : All (IsQueryOf s) qs → IsScriptOf grown
   more old = record {
     known = grind arith;

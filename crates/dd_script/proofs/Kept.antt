@@ -1,4 +1,4 @@
--- What holds of every script, after each command.
+-- What holds of every script still holds after one more command.
 use Rattle.std.proofs.Common.{◌≡◌, ℕ, ◌≤◌, [], length, Option, None, arith}
 use Rattle.std.proofs.lemmas.{Grind.common_steps, List.Elements.All-push}
 use Rattle.std.proofs.lemmas.List.FromFn.{length-range_with_len, get_or-range_with_len}
@@ -11,15 +11,16 @@ use Rattle.dd_meanings.specs.{Meanings.meaning, Sound.IsSoundMeaning}
 use Rattle.dd_pairs.specs.Made.{HavePairs}
 use Rattle.dd_script.proofs.Growing.{stay, one_more, more}
 
--- nothing is defined or asked
+-- nothing is defined or asked yet
 abbrev pub IsFresh : Parts → Type 0
 IsFresh s = (s.rules ≡ []) × (s.automata ≡ []) × (s.configurations ≡ []) × (s.queries ≡ [])
 
--- the stage of the last command of the header
+-- The stage of `limits`, the last command of the header. A stage is a place in the order of commands. The commands of the header come before all
+-- definitions and queries.
 abbrev last_of_header : ℕ
 last_of_header = stage Head.Limits
 
--- if commands of this stage belong to the header, nothing is defined or asked
+-- if commands of this stage belong to the header, nothing is defined or asked yet
 abbrev pub IsReady : ℕ → Parts → Type 0
 IsReady place s = place ≤ last_of_header → IsFresh s
 
@@ -27,10 +28,11 @@ IsReady place s = place ≤ last_of_header → IsFresh s
 light_range : (n : ℕ) → n ≤ 1001 → All (λ w. w ≤ 1000) (range_with_len 0 n)
 light_range n le = λ i d lt. omega (arith, le, length-range_with_len 0 n, get_or-range_with_len 0 n i d)
 
--- if `option_or` of two options is `None`, so is the second option
+-- if `option_or o (option_map f p)` is `None`, then p is `None`
 second_none : {X Y : Type 0} (o : Option Y) (f : X → Y) (p : Option X) → option_or o (option_map f p) ≡ None → p ≡ None
 second_none o f p e = grind arith
 
+-- the sets of allowed symbols are well formed: each node allows one symbol or more
 abbrev pub HasSets : Known → Type 0
 HasSets k = IsSets (length k.setting.sets.allowed) k.setting.sets
 
@@ -44,7 +46,8 @@ module _ (d : Draft) (is : IsScriptOf (parts_of d)) where
   pub ready_behind : (c : Command) → IsReady (stage (head_of c)) s → IsReady (next_stage (head_of c)) (behind c)
   ready_behind c ready = grind arith
 
-  -- a command of the header may change all that is known except the names of definitions; a later command only adds a definition or a query
+  -- What holds of the script holds after the command c. A command of the header may change all that is known except the names of definitions, but
+  -- then nothing is defined or asked yet. A later command only adds a definition or a query.
   pub kept_behind : (c : Command) → IsReady (stage (head_of c)) s → IsSoundMeaning d.context (meaning d.context d.made.automata c) → asked_fault s (meaning d.context d.made.automata c) ≡ None
       → HavePairs d.context.known (comparisons_in s (meaning d.context d.made.automata c)) → HasSets (behind c).known → IsScriptOf (behind c)
   kept_behind (Command.Rule name f) ready sound faultless pairs has =

@@ -18,7 +18,8 @@ use Rattle.dd_script.proofs.Kept.{IsReady, HasSets, ready_behind, kept_behind}
 abbrev pub meant : Draft → Written → Meaning
 meant d w = meaning_of d.context d.made.automata w.command
 
--- if neither the command's text nor its counts have a fault, only its question and pairs can have one
+-- If the command's text has no fault, and the counts of its rule or automaton (instances, cells that it reads, depth) exceed no limit, then the fault
+-- of the command, if any, is the one that `asked_fault` gives: the command is a query, and its pairs or questions exceed a limit.
 module _ (d : Draft) (w : Written) (m : Meaning) (none : first_fault (written_faults d.context w) ≡ None) (few : counted_sizes d.context d.made.automata w.command ≡ []) (is : m ≡ meant d w) where
   pub asked_is : fault_at d w ≡ asked_fault (parts_of d) m
   asked_is = rw (none, few, is)
@@ -39,7 +40,9 @@ module _ (d : Draft) (w : Written) (m : Meaning) (none : first_fault (written_fa
 abbrev rest_of : Draft → List Written → Option Located × Parts
 rest_of d ws = (first_from d.context.text d.context.has_topology d.context.number (parts_of d) ws, after_all d.context.text d.context.has_topology d.context.number (parts_of d) ws)
 
--- The first i commands were read and had no fault. So the first fault of the remaining ones is that of the whole text, and they lead to its script.
+-- The first i commands were read and had no fault. So the first fault of the remaining commands is the first fault of the whole text, and they lead
+-- to the script of the whole text. The stages of the remaining commands are in order and start at `from` or later. If `from` is a stage of the
+-- header, nothing is defined or asked yet. What holds of every script holds of the script so far.
 pub record Sofar (text : List ℕ) (ws : List Written) (i : ℕ) (d : Draft) : Type 0 where
   pub from : ℕ
   pub left : List (List Lexeme)
@@ -57,7 +60,7 @@ begins text ws d written begun kept =
     subst (Sofar text ws 0) (sym begun)
     (record { from = 0; left = (texts_of (lexemes_of text)).1; are = written.1.1; fresh = λ header. (refl, refl, refl, refl); script = kept; same_text = refl; leads = refl })
 
--- the command's stage is at least `from`, and the later commands start from the stage after it
+-- the stage of the first command is at least `from`, and the stage of the command after it is at least `stage_after` of the first
 next_one : (text : List ℕ) (from : ℕ) (ps : List (List Lexeme)) (w : Written) (ws : List Written) → AreCommands text from ps (w ∷ ws)
     → (from ≤ stage_of w) × (left : List (List Lexeme)) × AreCommands text (stage_after w) left ws
 next_one text from [] w ws are = absurd are
@@ -70,7 +73,7 @@ module _ (text : List ℕ) (ws : List Written) (i : ℕ) (d : Draft) (w : Writte
   here : (sofar.from ≤ stage_of w) × (left : List (List Lexeme)) × AreCommands text (stage_after w) left (drop (i + 1) ws)
   here = next_one text sofar.from sofar.left w (drop (i + 1) ws) (rw split at sofar.are)
 
-  -- what `rest_of` gives before the command at i, if `found` is the first fault of that command
+  -- what `rest_of` gives before the command at the index i, if `found` is the first fault of that command, or `None` if it has no fault
   abbrev rest_with : Option Fault → Option Located × Parts
   rest_with found =
       let rest = rest_of (with_meaning d (meant d w)) (drop (i + 1) ws) in (option_or (option_map (located d.context.number) found) rest.0, rest.1)
@@ -81,7 +84,7 @@ module _ (text : List ℕ) (ws : List Written) (i : ℕ) (d : Draft) (w : Writte
   pub written_here : All (IsWritten text) ws → IsWritten d.context.text w
   written_here all = rw (sofar.same_text, is) (All-get_or (IsWritten text) ws i w lt all)
 
-  -- the command's meaning is added, and each node allows some symbols
+  -- the command at the index i has no fault, and its meaning is added; if each node then allows some symbols, `Sofar` holds for one command more
   pub goes_on : (m : Meaning) → Means d w m → (e : Draft) → e ≡ with_meaning d m → HasSets e.context.known → Sofar text ws (i + 1) e
   goes_on m means e added has =
       let all : e ≡ with_meaning d (meant d w) = added ∙ ap (with_meaning d) means.is in
@@ -96,7 +99,7 @@ module _ (text : List ℕ) (ws : List Written) (i : ℕ) (d : Draft) (w : Writte
         leads = leads_with None means.faultless;
       })
 
-  -- reading stops at this command, because it has a fault
+  -- reading stops at the command at the index i, if it has a fault: the first fault of this command is the first fault of the text
   pub stops : IsScript text (tree_of text ws) → (f : Fault) → fault_at d w ≡ Some f → HasFault d.context.text d.context.number (kind_of d.context.text f)
   stops written f found =
       subst (λ (t : List ℕ). HasFault t d.context.number (kind_of t f)) (sym sofar.same_text) (record {
@@ -107,7 +110,7 @@ module _ (text : List ℕ) (ws : List Written) (i : ℕ) (d : Draft) (w : Writte
         is = refl;
       })
 
--- after the last command
+-- after the last command, the text spells the script that was read
 pub spelled : (text : List ℕ) (ws : List Written) (i : ℕ) (d : Draft) → IsScript text (tree_of text ws) → Sofar text ws i d → length ws ≤ i → Spells text (parts_of d)
 spelled text ws i d written sofar done =
     let same : rest_of d [] ≡ (first_located_fault text ws, script_of text ws) = rw (drop_all i ws done) at sofar.leads in

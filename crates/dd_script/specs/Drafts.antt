@@ -1,4 +1,4 @@
--- Drafts of scripts, which grow while the commands are read one by one.
+-- Drafts. A draft is a script after the commands read so far. It grows as the commands are read, one by one.
 use Rattle.std.specs.Prelude.{ℕ, ◌+◌, ◌≡◌, ◌≤◌, List, Bool, Option, None}
 use Rattle.dd_values.specs.Bounds.{most_commands}
 use Rattle.dd_script.specs.{Tree.SyntaxFault, declared.draft.Draft.Draft, declared.fault.ScriptFault.ScriptFault}
@@ -11,7 +11,8 @@ use Rattle.dd_pairs.specs.Made.{HavePairs}
 abbrev pub parts_of : Draft → Parts
 parts_of d = parts d.context.known d.made
 
--- the draft before the command with the number n
+-- the draft before the command with the number n; s is the script after the commands before it, and `topology` says whether the text has a `topology`
+-- command
 abbrev pub draft_of : List ℕ → Bool → ℕ → Parts → Draft
 draft_of text topology n s =
     record {
@@ -19,15 +20,17 @@ draft_of text topology n s =
       made = record { rules = s.rules; automata = s.automata; configurations = s.configurations; queries = s.queries };
     }
 
--- the draft after a command with this meaning
+-- the draft after one more command, which has this meaning
 abbrev pub with_meaning : Draft → Meaning → Draft
 with_meaning d m = draft_of d.context.text d.context.has_topology (d.context.number + 1) (with d.context.text (parts_of d) m)
 
--- the first fault of the next command
+-- the first fault of the next command, if it has one
 abbrev pub fault_at : Draft → Written → Option Fault
 fault_at d w = fault_of d.context.text d.context.has_topology d.context.number (parts_of d) w
 
--- the next command has no fault, and this is what it means
+-- The next command has no fault, and this is what it means. The meaning is sound, and the command's number is within the limit on commands. If the
+-- command is a query, its pairs are well formed, and neither they, nor the questions about them, nor the query's own question exceeds a limit on
+-- scripts.
 pub record Means (d : Draft) (w : Written) (m : Meaning) : Type 0 where
   pub faultless : fault_at d w ≡ None
   pub is : m ≡ meaning_at d.context.text d.context.has_topology d.context.number (parts_of d) w
@@ -36,7 +39,7 @@ pub record Means (d : Draft) (w : Written) (m : Meaning) : Type 0 where
   pub pairs : HavePairs d.context.known (comparisons_in (parts_of d) m)
   pub counted : d.context.number ≤ most_commands
 
--- the fault names the command that is not well formed, or says that memory ran out
+-- the script's fault says the same as this fault of its syntax: the command with this number is not well formed, or memory ran out
 abbrev pub IsUnread : SyntaxFault → ScriptFault → Type 0
 IsUnread SyntaxFault.Memory e = e ≡ record { command = 0; kind = ScriptKind.Memory }
 IsUnread (SyntaxFault.At n) e = e ≡ record { command = n; kind = ScriptKind.Syntax }

@@ -7,7 +7,8 @@ use Rattle.dd_pairs.specs.Made.{HavePairs}
 use Rattle.dd_script.specs.Parts.{Parts, Query}
 pub use Rattle.dd_script.specs.Questions.{query_excess, comparisons_for}
 
--- what the query names exists; its numbers and vectors are within their bounds; neither its pairs nor its question exceeds a limit
+-- What the query names exists, and its numbers and vectors are within their bounds. If it asks about pairs of automata, there are at least two
+-- symbols. Its pairs are well formed. Neither they, nor the questions about them, nor the query's own question exceeds a limit on scripts.
 pub record IsQueryOf (s : Parts) (q : Query) : Type 0 where
   pub within : IsQueryWithin s.known q
   pub pairs : HavePairs s.known (comparisons_for s q)
@@ -15,9 +16,12 @@ pub record IsQueryOf (s : Parts) (q : Query) : Type 0 where
 
 -- what holds of a script with these parts
 pub record IsScriptOf (s : Parts) : Type 0 where
-  -- the numbers of nodes and symbols, the weights and the limits are in range and agree
+  -- the nodes, symbols, topology, allowed symbols and weights fit together; the numbers of nodes and symbols, the weights and the search limits are
+  -- in range
   pub known : IsSound s.known
-  -- the rules, the configurations, and the automata with the rules in them have the script's topology, nodes and symbols
+  -- There are as many rules, automata and configurations as names of them. The rules, and the rules in automata, are over the script's topology, its
+  -- symbols, and the symbols that its nodes allow. The automata and the configurations have the script's dimension, nodes and symbols. In a
+  -- configuration, each cell has a symbol that its node allows.
   pub rules : AreNamed (IsRuleOf s.known.setting) s.known.rules s.rules
   pub automata : AreNamed (IsAutomatonOf s.known.setting) s.known.automata s.automata
   pub configurations : AreNamed (IsConfigurationOf s.known.setting) s.known.configurations s.configurations

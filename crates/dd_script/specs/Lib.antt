@@ -1,8 +1,8 @@
--- types of other crates: syntax trees, their faults, and what a script has set and named before a command
+-- types of other crates: syntax trees, the contexts of commands, faults and limits
 pub mod Tree
 -- the parts of a script
 pub mod Parts
--- what the queries ask, and which limit on its work a question exceeds
+-- what the queries ask, and which limit on work a question exceeds
 pub mod Questions
 -- what holds of every script
 pub mod Kept
@@ -12,5 +12,5 @@ pub mod Walk
 pub mod Asking
 -- which bytes spell a script, and how all others are refused
 pub mod Scripts
--- drafts of scripts, which grow while the commands are read one by one
+-- drafts: scripts after the commands read so far
 pub mod Drafts

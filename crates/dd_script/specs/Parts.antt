@@ -6,8 +6,9 @@ pub use Rattle.dd_known.specs.declared.{known.Setting.Setting, known.Known.Known
 pub use Rattle.dd_query.specs.declared.queries.Query.{Query}
 use Rattle.dd_script.specs.declared.script.Made.{Made}
 
--- A script, as contracts see it. `known` holds its nodes, symbols and topology, which symbols each node allows, the names of what it defines, its
--- weights and its limits. The rules, automata and configurations are in the order of their definitions, and the queries in the order in which they
+-- A script, as contracts see it. `known` holds the script's nodes, symbols and topology, which symbols each node allows, the weights of the symbols,
+-- the search limits, and the names of the rules, automata and configurations. It also records whether the script named its nodes, and for which nodes
+-- it restricted the symbols. The rules, automata and configurations are in the order of their definitions, and the queries in the order in which they
 -- are asked.
 pub record Parts : Type 0 where
   pub known : Known

@@ -9,11 +9,11 @@ use Rattle.dd_pairs.specs.Queries.{comparisons_asked, pairs_of}
 use Rattle.dd_pairs.specs.declared.pair.Pair.{Pair}
 use Rattle.dd_script.specs.Parts.{Parts, LocalRule, Automaton, Query, Setting}
 
--- does the automaton map configurations of the first rule to configurations of the second?
+-- does the automaton map configurations of the first rule to configurations of the second rule?
 abbrev pub map_question : Setting → LocalRule → LocalRule → Automaton → Asked
 map_question s x y f = question.box x (goal_of s (image x f y))
 
--- does f map configurations of x to those of y, does g map those of y to those of x, and are f and g inverse to each other there?
+-- does f map configurations of x to those of y, does g map those of y to those of x, and are f and g inverse to each other on these configurations?
 abbrev pub conjugacy_question : Setting → LocalRule → LocalRule → Automaton → Automaton → Asked
 conjugacy_question s x y f g =
     question.conjugacy (conjugacy_by x y (pair_of s (image x f y)) (pair_of s (image y g x)) (pair_of s (change x g f)) (pair_of s (change y f g)))
@@ -35,11 +35,13 @@ asked s (Query.Density rule strip) = option_map (λ x. question.density x strip 
 asked s (Query.Least rule periods) = option_map (λ x. question.least x periods s.known.weights) (slice_get s.rules rule)
 asked s (Query.Discharge rule radius margin vectors) = option_map (λ x. question.discharge x radius margin vectors s.known.weights) (slice_get s.rules rule)
 
--- The limit on its work that the query's question exceeds, if there is one. The work depends on the script's limits on searches.
+-- The limit on work that the query's question exceeds, if there is one. The work for box questions depends on the script's search limits.
 abbrev pub query_excess : Parts → Query → Option Excess
 query_excess s q = option_and_then (excess_of s.known.limits) (asked s q)
 
--- the comparisons that a query consists of: each asks about images under an automaton, or about changes under two automata
+-- The comparisons that a query about an image or a conjugacy consists of; any other query has none. A comparison asks whether the image of a
+-- configuration under an automaton can break a rule or have a symbol that isn't allowed, or whether a configuration can change if two automata are
+-- applied to it, one after the other.
 abbrev pub comparisons_for : Parts → Query → List ComparisonOf
 comparisons_for s q = comparisons_asked s.rules s.automata q
 

@@ -5,14 +5,14 @@ use Rattle.dd_script.specs.{Tree.Syntax, Tree.Fault, declared.fault.ScriptKind.S
 use Rattle.dd_script.specs.{Parts.Parts, Walk.located, Walk.first_located_fault, Walk.script_of, Walk.Limit, Walk.Fault}
 use Rattle.dd_commands.specs.Scripts.{IsScript, IsSyntaxFault}
 
--- the bytes are a text of the grammar, without a fault, and the script is its meaning
+-- the bytes follow the grammar, none of their commands has a fault, and s is the script that the commands mean
 pub record Spells (bytes : List ℕ) (s : Parts) : Type 0 where
   pub tree : Syntax
   pub written : IsScript bytes tree
   pub faultless : first_located_fault bytes tree.commands ≡ None
   pub meaning : s ≡ script_of bytes tree.commands
 
--- Why a text is refused.
+-- Why a text is refused, if memory doesn't run out.
 pub data RefusalKind : Type 0 where
   syntax : RefusalKind
   unknown : List ℕ → RefusalKind
@@ -28,7 +28,7 @@ kind_of bytes Fault.TwiceVector = twice (codes "vector")
 kind_of bytes Fault.Dimension = dimension
 kind_of bytes (Fault.Size l) = size l
 
--- the bytes are a text of the grammar; the first fault of its commands is of kind k and belongs to the command with the number n
+-- the bytes follow the grammar; the first fault of their commands is of kind k and belongs to the command with the number n
 pub record HasFault (bytes : List ℕ) (n : ℕ) (k : RefusalKind) : Type 0 where
   pub tree : Syntax
   pub written : IsScript bytes tree
@@ -36,7 +36,8 @@ pub record HasFault (bytes : List ℕ) (n : ℕ) (k : RefusalKind) : Type 0 wher
   pub comes_first : first_located_fault bytes tree.commands ≡ Some (located n found)
   pub is : k ≡ kind_of bytes found
 
--- the bytes are refused for the first command that is not well formed; or if all are well formed, for the first fault
+-- The bytes are refused with the number n and this kind. They are refused for the first command that is not well formed (n is 0 if some token stands
+-- before the first command). If all commands are well formed, they are refused for the first fault.
 abbrev pub RefusedAs : List ℕ → ℕ → RefusalKind → Type 0
 RefusedAs bytes n syntax = IsSyntaxFault bytes n
 RefusedAs bytes n (unknown text) = HasFault bytes n (unknown text)
@@ -44,7 +45,7 @@ RefusedAs bytes n (twice text) = HasFault bytes n (twice text)
 RefusedAs bytes n dimension = HasFault bytes n dimension
 RefusedAs bytes n (size l) = HasFault bytes n (size l)
 
--- the bytes are refused as above; or memory ran out, and then it is only promised that the number is 0
+-- the bytes are refused as in `RefusedAs`; or memory ran out, and then it is only promised that the number is 0
 abbrev pub IsRefusedAs : List ℕ → ℕ → ScriptKind → Type 0
 IsRefusedAs bytes n ScriptKind.Syntax = RefusedAs bytes n syntax
 IsRefusedAs bytes n (ScriptKind.Unknown text) = RefusedAs bytes n (unknown (string_bytes text))

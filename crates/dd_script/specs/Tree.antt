@@ -1,5 +1,5 @@
--- Types of other crates, re-exported from one place: syntax trees, their faults, and what a script has set and named before a command. Declares
--- nothing.
+-- Types of other crates, re-exported from one place: tokens, syntax trees, the contexts of commands, faults and limits. This module declares nothing
+-- of its own.
 pub use Rattle.dd_written.specs.declared.{lexeme.Lexeme.Lexeme}
 pub use Rattle.dd_commands.specs.declared.{head.Head.Head, command.Command.Command, script.Written.Written, script.Syntax.Syntax}
 pub use Rattle.dd_commands.specs.declared.{fault.SyntaxFault.SyntaxFault}

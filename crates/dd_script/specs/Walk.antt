@@ -41,7 +41,7 @@ with bytes s (Meaning.Query query) = record s { queries = s.queries ++ query ∷
 
 -- ---- one command after the other
 
--- the context of the command with the number n; `topology` says whether the script has a topology command
+-- the context of the command with the number n; s is the script before it, and `topology` says whether the text has a `topology` command
 abbrev pub context : List ℕ → Bool → ℕ → Parts → Context
 context bytes topology n s = record { text = bytes; has_topology = topology; number = n; known = s.known }
 
@@ -58,30 +58,31 @@ query_in (Meaning.Automaton name automaton) = None
 query_in (Meaning.Configuration name configuration) = None
 query_in (Meaning.Query query) = Some query
 
--- the first limit that the query's pairs or the questions about them exceed; otherwise the limit that the query's own question
--- exceeds
+-- the first limit that one of the query's pairs, or the question about such a pair, exceeds; if there is none, the limit that the query's own
+-- question exceeds
 abbrev pub query_fault : Parts → Query → Option Fault
 query_fault s q = option_or (earliest (faults_in_order s.known (comparisons_for s q))) (option_map (λ e. Fault.Size (limit_of e)) (query_excess s q))
 
--- the fault that `query_fault` gives for the command, if it is a query
+-- the fault that `query_fault` gives for the command with this meaning, if the command is a query
 abbrev pub asked_fault : Parts → Meaning → Option Fault
 asked_fault s m = option_and_then (query_fault s) (query_in m)
 
--- the comparisons that the command consists of, if it is a query
+-- the comparisons that the command with this meaning consists of, if it is a query; otherwise none
 abbrev pub comparisons_in : Parts → Meaning → List ComparisonOf
 comparisons_in s m = unwrap_or (option_map (comparisons_for s) (query_in m)) []
 
 abbrev pub meaning_at : List ℕ → Bool → ℕ → Parts → Written → Meaning
 meaning_at bytes topology n s w = meaning_of (context bytes topology n s) s.automata w.command
 
--- The first fault of a command. It is the first fault of the command's text; or if there is none, the first limit on counts that the command exceeds;
--- or if there is none, `asked_fault` of the command's meaning.
+-- The first fault of a command: the first of the lowest rank among the faults of the command's text. If there is none, it is the first of the limits
+-- that the counts of the command's rule or automaton exceed (its instances, the cells that it reads and its depth). If there is none either, it is
+-- `asked_fault` of the command's meaning.
 abbrev pub fault_of : List ℕ → Bool → ℕ → Parts → Written → Option Fault
 fault_of bytes topology n s w =
     option_or (first_fault (written_faults (context bytes topology n s) w))
     (option_or (first_fault (counted_sizes (context bytes topology n s) s.automata w.command)) (asked_fault s (meaning_at bytes topology n s w)))
 
--- the script after this command
+-- the script after this command, if s is the script before it
 abbrev pub next : List ℕ → Bool → ℕ → Parts → Written → Parts
 next bytes topology n s w = with bytes s (meaning_at bytes topology n s w)
 
@@ -93,17 +94,18 @@ pub record Located : Type 0 where
 abbrev pub located : ℕ → Fault → Located
 located n f = record { command = n; fault = f }
 
--- the first fault of the commands from the number n on
+-- the first fault of these commands, which are numbered from n; s is the script before them
 abbrev pub first_from : List ℕ → Bool → ℕ → Parts → List Written → Option Located
 first_from bytes topology n s [] = None
 first_from bytes topology n s (w ∷ ws) = option_or (option_map (located n) (fault_of bytes topology n s w)) (first_from bytes topology (n + 1) (next bytes topology n s w) ws)
 
--- the script after these commands
+-- the script after these commands, which are numbered from n; s is the script before them
 abbrev pub after_all : List ℕ → Bool → ℕ → Parts → List Written → Parts
 after_all bytes topology n s [] = s
 after_all bytes topology n s (w ∷ ws) = after_all bytes topology (n + 1) (next bytes topology n s w) ws
 
--- whether the command gives a topology, by its name or by its edges: these commands have a stage of their own in the order of commands
+-- Whether this is a `topology` command, which names a built-in topology or gives the edges of a topology. (A stage is a place in the order of
+-- commands. Only `topology` commands have the stage of `Head.Topology`.)
 abbrev pub is_topology : Written → Bool
 is_topology w = stage_of w == stage Head.Topology
 

@@ -1,4 +1,4 @@
-//! The draft of a script, which grows while its commands are read one by one.
+//! Drafts. A draft is a script after the commands read so far. It grows as the commands are read, one by one.
 ghost use Rattle.std.specs.Prelude.{◌≡◌, ◌≤◌, ◌++◌, [], ◌∷◌, Contains, OnOk, IfOk, MatchResult};
 ghost use Rattle.dd_values.specs.Bounds.{most_commands};
 ghost use Rattle.dd_written.specs.Values.{word_text};
@@ -23,15 +23,16 @@ use dd_values::{Boxed, Items};
 use dd_written::{Name, Text, Word, name_text};
 use std::alloc::{AllocError, Global};
 
-/// A script after the commands read so far, and the context of the next command.
+/// A script after the commands read so far. `context` is the context of the next command: the text, whether it has a `topology`
+/// command, the next command's number, and what the commands before it set and name. `made` holds what they define and ask.
 #[derive(Drop)]
 pub(crate) struct Draft {
     pub(crate) context: Context,
     pub(crate) made: Made,
 }
 
-/// Adds the name, which is not in the list yet. If the list is longer than it can be in any script, the error is that memory
-/// ran out.
+/// Adds the name, which is not in the list yet. If the list has more names than any script can have, the call fails as if
+/// memory ran out.
 fn add_name(alloc: Global, text: &Text, names: &mut Names, name: Word) -> Result<(), AllocError>
     requires { ¬ Contains names.old (word_text text.now name) }
     ensures { OnOk result (names.new ≡ names.old ++ word_text text.now name ∷ []) }
@@ -43,7 +44,7 @@ fn add_name(alloc: Global, text: &Text, names: &mut Names, name: Word) -> Result
 }
 
 impl Draft {
-    /// The draft before the first command. `has_topology` says whether the text has a topology command.
+    /// The draft before the first command. `has_topology` says whether the text has a `topology` command.
     pub(crate) fn new(alloc: Global, text: Text, has_topology: bool) -> Result<Draft, AllocError>
         ensures begun { IfOk result (λ begun. begun ≡ draft_of text has_topology 1 start) }
         ensures kept { OnOk result (IsScriptOf start) }
@@ -65,8 +66,8 @@ impl Draft {
         })
     }
 
-    /// Refuses a query if one of its pairs of automata, the question about one of these pairs, or its own question exceeds a limit.
-    /// Accepts all other queries and commands.
+    /// Refuses a query if one of the following exceeds a limit on scripts: a pair of automata that the query asks about, the
+    /// question about such a pair, or the question that the query itself asks. Accepts all other queries and commands.
     fn check_limits(&self, alloc: Global, meaning: &Meaning) -> Result<(), Refusal>
         requires script { IsScriptOf (parts_of self.now) }
         requires sound { IsSoundMeaning self.now.context meaning.now }
@@ -92,7 +93,7 @@ impl Draft {
         }
     }
 
-    /// The meaning of the next command, or its first fault.
+    /// The meaning of the next command, or the first fault of that command.
     pub(crate) fn meaning_of(&self, alloc: Global, written: &Written) -> Result<Meaning, Refusal>
         requires written { IsWritten self.now.context.text written.now }
         requires script { IsScriptOf (parts_of self.now) }

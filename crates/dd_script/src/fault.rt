@@ -14,16 +14,16 @@ pub enum ScriptKind {
     /// The command is not well formed.
     #[error("not well formed")]
     Syntax,
-    /// This name is unknown.
+    /// This name refers to nothing. Or a configuration gives the symbol with this name to a cell whose node doesn't allow it.
     #[error("unknown name {0}")]
     Unknown(String),
-    /// This name is given twice. If a vector is given twice, the text is `vector`.
+    /// This name is given twice where it may be given only once. If a discharge has a vector twice, the string is `vector`.
     #[error("{0} is given twice")]
     Twice(String),
-    /// A dimension or a number of entries is wrong.
+    /// The dimension, or a number of nodes, symbols, weights or entries, does not fit.
     #[error("wrong dimension or number of entries")]
     Dimension,
-    /// This limit is exceeded.
+    /// This limit on scripts is exceeded.
     #[error("a limit is exceeded")]
     Size(Limit),
     /// Memory ran out. The command's number is then 0.
@@ -31,9 +31,10 @@ pub enum ScriptKind {
     Memory,
 }
 
-/// Why a text is not a script. `command` is the number of the first command that is not well formed. If all are well formed, it is
-/// the number of the first command with a fault, and `kind` is the first fault of that command. Commands are numbered from 1. The
-/// number 0 stands for the text before the first command, and is also given if memory ran out.
+/// Why a text is not a script. `command` is the number of the first command that is not well formed. If all are well formed, it
+/// is the number of the first command with a fault, and `kind` is the first fault of that command, in the order that `parse`
+/// states. Commands are numbered from 1. The number 0 stands for the text before the first command, and is also given if memory
+/// ran out.
 #[derive(Debug, Drop, Error)]
 #[error("command {command}: {kind}")]
 pub struct ScriptFault {

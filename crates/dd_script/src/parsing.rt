@@ -15,7 +15,7 @@ use dd_faults::{Fault, Refusal};
 use dd_written::{Text, name_text};
 use std::alloc::{AllocError, Global};
 
-/// Whether a command gives a topology, by its name or by its edges.
+/// Whether this is a `topology` command. It names a built-in topology, or gives the edges of a topology.
 fn is_topology(written: &Written) -> bool
     ensures { result ≡ is_topology written.now }
 {
@@ -25,7 +25,7 @@ fn is_topology(written: &Written) -> bool
     )
 }
 
-/// Whether one of the commands gives a topology.
+/// Whether one of the commands is a `topology` command.
 fn has_topology(commands: &[Written]) -> bool
     ensures { result ≡ has_topology commands.now }
 {
@@ -54,8 +54,8 @@ fn refusal_for(
     Ok(ScriptFault { command, kind })
 }
 
-/// Adds all commands of a text to the draft. If some command has a fault, the error names the first such command and its first
-/// fault.
+/// Adds all commands of a text to the draft, which is the draft before the first of them. If some command has a fault, the
+/// error gives the number of the first such command, and the first fault of that command.
 fn walk(alloc: Global, draft: &mut Draft, commands: &[Written]) -> Result<(), ScriptFault>
     requires begun { draft.old ≡ draft_of draft.old.context.text (has_topology commands.now) 1 start }
     requires kept { IsScriptOf start }
@@ -82,8 +82,8 @@ fn walk(alloc: Global, draft: &mut Draft, commands: &[Written]) -> Result<(), Sc
     Ok(())
 }
 
-/// The script that the commands of a text spell. If some command has a fault, the error names the first such command and its
-/// first fault.
+/// The script that the commands of a text spell. If some command has a fault, the error gives the number of the first such
+/// command, and the first fault of that command.
 fn script_of(alloc: Global, text: Text, commands: &[Written]) -> Result<Script, ScriptFault>
     requires written { IsScript text (record { text = text; commands = commands.now }) }
     requires each { All (IsWritten text) commands.now }
@@ -104,9 +104,11 @@ fn script_of(alloc: Global, text: Text, commands: &[Written]) -> Result<Script, 
 /// The script that the bytes spell, or why they spell none.
 ///
 /// # Errors
-/// The error names the first command that is not well formed. If all are well formed, it names the first command with a fault, and
-/// the first fault of that command. Faults come in this order: an unknown name, a repetition, a wrong dimension or number of
-/// entries, a limit exceeded. Or the error says that memory ran out.
+/// The error gives the number of the first command that is not well formed. If all are well formed, it gives the number of the
+/// first command with a fault, and the first fault of that command. Of a command's faults, unknown names come first, then
+/// repetitions, then wrong dimensions and wrong numbers of items, then exceeded limits, in the order of `Limit`. Faults of the
+/// same kind or the same limit come in the order of the text. If a query asks about pairs of automata, the limits on a pair and
+/// on the question about it are tested before those on the next pair. The error may also say that memory ran out.
 pub fn parse(alloc: Global, bytes: &[u8]) -> Result<Script, ScriptFault>
     requires { length bytes.now ≤ most_script }
     ensures spelled { IfOk result (Spells bytes.now) }

@@ -11,8 +11,8 @@ use dd_pairs::{Pair, conjugacy};
 use dd_query::Query;
 use dd_question::Question;
 
-/// What a query asks, with rules, automata and configurations in place of their indices. `pairs` are the pairs of the query. If the
-/// question weighs configurations, it has the script's weights.
+/// What a query asks, with rules, automata and configurations in place of their indices. `pairs` are the pairs of automata that
+/// the query asks about. A question about a density, a least weight or a discharge has the script's weights.
 pub(crate) fn question_of<'a>(
     known: &'a Known,
     made: &'a Made,

@@ -11,7 +11,7 @@ use dd_values::{Boxed, Items, Limits};
 use std::alloc::{AllocError, Global};
 use std::marker::Model;
 
-/// What the commands define and ask, in order.
+/// What the commands define and ask. Each list is in the order of the commands.
 #[derive(Drop)]
 pub(crate) struct Made {
     pub(crate) rules: Items<Rule>,
@@ -20,16 +20,18 @@ pub(crate) struct Made {
     pub(crate) queries: Items<Query>,
 }
 
-/// The contents of a script. `known` holds its nodes, symbols and topology, which symbols each node allows, the names of what
-/// it defines, its weights and its limits. `made` holds the rules, automata and configurations themselves, and the queries.
+/// The contents of a script. `known` holds the script's nodes, symbols and topology, which symbols each node allows, the
+/// weights of the symbols, the search limits, and the names of the rules, automata and configurations. It also records whether
+/// the script named its nodes, and for which nodes it restricted the symbols. `made` holds the rules, automata and
+/// configurations themselves, and the queries.
 #[derive(Drop)]
 pub(crate) struct Contents {
     pub(crate) known: Known,
     pub(crate) made: Made,
 }
 
-/// A script: its topology, nodes, symbols, weights and limits, what it defines, and what it asks. Its numbers are in range. What it
-/// defines has the script's dimension, nodes and symbols. The script exceeds no limit.
+/// A script: its topology, nodes, symbols, weights and search limits, what it defines, and what it asks. Its numbers are in
+/// range. What it defines has the script's dimension, nodes and symbols. The script exceeds none of diddy's limits on scripts.
 ///
 /// A value of this type is small: its contents are on the heap.
 #[derive(Drop)]
@@ -83,7 +85,7 @@ impl Script {
         &self.contents.get().known.setting.symbols
     }
 
-    /// The topology: the edges that formulas follow.
+    /// The topology: the labelled edges between cells. In formulas the labels are moves.
     pub fn topology(&self) -> &Topology
         ensures value { result.now ≡ self.now.known.setting.topology }
         ensures kept { IsScriptOf self.now }
@@ -124,8 +126,9 @@ impl Script {
         self.contents.get().made.rules.as_slice()
     }
 
-    /// The automata and compositions, in the order of their definitions. The rules in them have the script's topology and the
-    /// symbols that its nodes allow.
+    /// The automata, among them compositions, in the order of their definitions. Each automaton is well formed and has the
+    /// script's dimension, nodes and symbols. The rules in an automaton are those of its cases, or those of the two automata
+    /// that it composes. They are made over the script's topology and the symbols that the script's nodes allow.
     pub fn automata(&self) -> &[Automaton]
         ensures value { result.now ≡ self.now.automata }
         ensures kept { IsScriptOf self.now }
@@ -172,14 +175,14 @@ impl Script {
         let automata = made.automata.as_slice();
         match pairs_of(alloc, &contents.known, rules, automata, query) {
             Ok(pairs) => Ok(pairs),
-            // The script was accepted with this query, so no limit is exceeded.
+            // The script was accepted with this query, so no limit is exceeded. Only memory can have run out.
             Err(_) => Err(AllocError),
         }
     }
 
-    /// What a query of the script asks, with rules, automata and configurations in place of their indices. `pairs` are the pairs of
-    /// the query. The question has the script's limits. If it weighs configurations, it has the script's weights. The call allocates
-    /// nothing.
+    /// What a query of the script asks, with rules, automata and configurations in place of their indices. `pairs` are the
+    /// pairs of automata that the query asks about. The checked question has the script's search limits. A question about a
+    /// density, a least weight or a discharge has the script's weights. The call allocates nothing.
     pub fn question<'a>(&'a self, query: &'a Query, pairs: &'a [Pair]) -> CheckedQuestion<'a>
         requires query { Contains self.now.queries query.now }
         requires pairs { pairs.now ≡ pairs_for self.now query.now }
@@ -192,12 +195,13 @@ impl Script {
         CheckedQuestion::known(question, *self.limits())
     }
 
-    /// Does nothing. Its contract says that what the queries ask is well formed and exceeds no limit.
+    /// Does nothing. The contract says of each question that a query asks: it is well formed, it exceeds no limit on its work,
+    /// and its rules, except those in goals, have the script's topology, nodes and symbols.
     pub fn sound_questions(&self)
         ensures { AreSound self.now }
     {
         sound_questions();
-        // This call tells the proof what the type guarantees.
+        // This call tells the proof what the type `Script` guarantees.
         let _limits = self.limits();
     }
 }

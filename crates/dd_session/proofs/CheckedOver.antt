@@ -29,7 +29,7 @@ refused_over sink bytes line Memory why wrote = absurd wrote
 refused_over sink bytes line BadWords why wrote = absurd wrote
 refused_over sink bytes line Rejected why wrote = absurd wrote
 
--- the bytes are no output
+-- the bytes aren't an output
 pub offset_over : {K : Type 0} (sink : Change K) (bytes line text : List ℕ) (offset : ℕ) (status : Status) → IsOutputFault bytes (faults.Malformed offset)
     → line ≡ offset_line offset → text ≡ line → RefusedBy sink text status → CheckedOver sink bytes status
 offset_over sink bytes line text offset status none is same wrote =
@@ -50,7 +50,7 @@ few_bytes o bytes writable is = rw is writable.0
 pub same_spelled : (o : Output) (bytes : List ℕ) (s : Parts) → bytes ≡ o.script → Spells bytes s → Spells o.script s
 same_spelled o bytes s is spelled = subst (λ (l : List ℕ). Spells l s) is spelled
 
--- the script in the output is no script
+-- the script part of the output isn't a script
 pub script_over : {K : Type 0} (sink : Change K) (o : Output) (bytes : List ℕ) (n : ℕ) (kind : ScriptKind) (status : Status) → IsWritableOutput o
     → bytes ≡ o.script → IsRefusedAs bytes n kind → RefusedFor sink (codes "refused script") n kind status → CheckedOver sink (output_text o) status
 script_over sink o bytes n kind status writable of fault (inl refused) =

@@ -65,7 +65,7 @@ module _ (never_both : NeverBoth) where
         not_accepted bytes whole.line source.bytes_new whole.refused);
   }
 
--- ---- how a session ended, told from how the run over the bytes ended
+-- ---- how a session ended, as it follows from how the run over the bytes ended
 
 -- The input was read to its end.
 pub ended_run : {S K : Type 0} (source : Change S) (sink : Change K) (given bytes : List ℕ) (status : Status) → ReadToEnd source.bytes_old source.bytes_new given

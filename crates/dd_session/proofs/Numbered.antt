@@ -1,4 +1,4 @@
--- A script has at most as many queries as the limit on its commands.
+-- The number of queries of a script is at most `most_commands`, the limit on the number of its commands.
 use Rattle.std.proofs.Common.{◌≡◌, ℕ, ◌+◌, ◌≤◌, List, [], ◌∷◌, ◌++◌, length, Bool, true, false, Option, None, Some, nat_lt, refl, sym, subst, arith, length-append}
 use Rattle.std.proofs.lemmas.Bool.{ltb-false}
 use Rattle.std.specs.{Prelude.if◌then◌else◌, List.flat_map, Option.option_or, Option.option_map}

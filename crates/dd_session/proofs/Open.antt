@@ -1,4 +1,4 @@
--- Whether some query has no definite answer, told from the right answers that were found.
+-- Whether some query has no definite answer. This follows from the right answers that were found.
 use Rattle.std.proofs.Common.{◌≡◌, ℕ, zero, suc, ◌<◌, List, [], ◌∷◌, length, get_or, Bool, true, false, refl, sym, ◌∙◌, subst, arith, inl, inr}
 use Rattle.std.proofs.lemmas.Bool.{false≢true, or_cases}
 use Rattle.std.specs.{List.Contains, declared.option.Option.Option}
@@ -55,7 +55,7 @@ whole_run old new bytes s has agree spelled output = record {
   is_open = open_as s output.answers has agree output.right output.each output.unknown_is;
 }
 
--- a whole run has this status
+-- so `RanOver` holds with the status that `status_of` gives
 pub whole_over : {K : Type 0} (sink : Change K) (bytes : List ℕ) (s : Parts) (has : Bool) (status : Status) → AnswersAgree s → Spells bytes s →
     WholeOutput sink.bytes_old sink.bytes_new bytes s has → status ≡ status_of has → RanOver sink bytes status
 whole_over sink bytes s true status agree spelled output is =

@@ -1,4 +1,4 @@
--- The line for bytes that are refused, told from the fault that was found.
+-- The line for bytes that are refused, as it follows from the fault that was found.
 use Rattle.std.proofs.Common.{◌≡◌, ℕ, List, string_bytes, subst, sym, inl, inr}
 use Rattle.dd_script.specs.declared.fault.ScriptKind.{ScriptKind}
 use Rattle.dd_script.specs.Scripts.{IsRefusedAs, RefusedAs, RefusalKind, syntax, unknown, twice, dimension, size}
@@ -38,7 +38,7 @@ line_over sink bytes n kind status fault (inl refused) =
     refusal_over sink bytes refused.line status (refused_by bytes n kind refused.line fault refused.line_is) refused.wrote
 line_over sink bytes n kind status fault (inr (is, kept)) = subst (RanOver sink bytes) (sym is) (inr kept)
 
--- a run whose input is refused did not answer its queries
+-- a run whose input is refused doesn't come to its end
 pub refused_to_end : {K : Type 0} (sink : Change K) (words : List ℕ) (n : ℕ) (kind : ScriptKind) (status : Status)
     → RefusedFor sink words n kind status → ¬ IsToEnd status
 refused_to_end sink words n kind status (inl refused) to_end = never_to_end sink refused.line status refused.wrote to_end

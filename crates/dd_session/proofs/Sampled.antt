@@ -10,7 +10,7 @@ use Rattle.dd_session.specs.{Written.AnsweredToEnd, Samples.is_memory, Samples.L
 use Rattle.dd_session.proofs.Open.{AnswersAgree, open_as}
 use Rattle.dd_script.specs.declared.fault.ScriptKind.TheVariants as refused
 
--- the first lines of all answers were written, and the end line
+-- the first lines of all answers and the end line were written
 pub lines_over : {K : Type 0} (sink : Change K) (s : Parts) (has : Bool) (status : Status) → AnswersAgree s
     → AnsweredToEnd answer_line sink.bytes_old sink.bytes_new s has → status ≡ status_of has → LinesOf sink s status
 lines_over sink s true status agree lines is =

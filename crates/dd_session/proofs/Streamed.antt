@@ -195,7 +195,7 @@ cut_in_header a b bytes s text is front = record {
   front = subst (GainsFront a b) (is ∙ sym (append-nil (header bytes)) ∙ sym (append-nil (header bytes ++ []))) front;
 }
 
--- The header was written, and what follows it.
+-- The header and all that follows it were written.
 pub whole_output : (a b c : Option (List ℕ)) (bytes : List ℕ) (s : Parts) (text : List ℕ) (r : Result Bool RunFault)
     → text ≡ header bytes → Appends a b text → IfOk r (λ u. AnsweredToEnd answer_text b c s u) → IfOk r (λ u. WholeOutput a c bytes s u)
 whole_output a b c bytes s text (Ok u) is before lines = record {
@@ -208,7 +208,7 @@ whole_output a b c bytes s text (Ok u) is before lines = record {
 }
 whole_output a b c bytes s text (Err e) is before lines = tt
 
--- The header was written, and a prefix of what follows it.
+-- The header and a prefix of what follows it were written.
 pub cut_in_answers : (a b c : Option (List ℕ)) (bytes : List ℕ) (s : Parts) (text : List ℕ) (r : Result Bool RunFault)
     → text ≡ header bytes → Appends a b text → OnErr r (AnsweredShort answer_text b c s) → OnErr r (CutShort a c bytes s)
 cut_in_answers a b c bytes s text (Ok u) is before lines = tt

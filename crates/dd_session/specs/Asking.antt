@@ -85,7 +85,7 @@ pub record AsksFirst (left_old left_new : Option (List ℕ)) (before after : Lis
 
 -- ---- what a session does with the engines
 
--- What holds for all words of the command line.
+-- What holds whatever the words of the command line are.
 pub record AreKept {E : Type 0} (roster : Engines E) (status : Status) : Type 0 where
   -- Each sound engine is still there, in order, and no count of an engine has fallen.
   pub kept : Kept roster.before roster.after

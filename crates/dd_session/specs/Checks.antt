@@ -1,4 +1,4 @@
--- What the check of an output writes, as the bytes of the output determine it.
+-- What the check of an output with given bytes writes.
 use Rattle.std.specs.Prelude.{◌≡◌, ◌⊎◌, ℕ, zero, suc, ◌+◌, ◌-◌, ◌≤◌, ◌<◌, max, List, [], ◌∷◌, ◌++◌, length, codes, Bool, true, false, IsSomeAnd}
 use Rattle.std.specs.{List.slice_get, Fmt.decimal}
 use Rattle.dd_certificate.specs.declared.answer.Answer.{Answer}

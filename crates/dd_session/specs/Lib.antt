@@ -18,11 +18,11 @@ pub mod Answers
 pub mod Output
 -- what a check reads and writes, for each status
 pub mod Checked
--- what the check of an output writes, as the bytes of the output determine it
+-- what the check of an output with given bytes writes
 pub mod Checks
 -- a check accepts what a run wrote
 pub mod Agreement
 -- the check of answers one by one
 pub mod checking
--- how much of an answer is written
+-- how much of an answer is written, and why a call that writes failed
 pub mod writing

@@ -40,7 +40,7 @@ pub record IsSampleRun {S K : Type 0} (number : ℕ) (source : Change S) (sink :
 
 -- What is promised about words that ask for nothing.
 pub record IsIdle {S K : Type 0} (words : List (List ℕ)) (source : Change S) (sink : Change K) (status : Status) : Type 0 where
-  -- The status is `BadWords` exactly if the words ask for nothing.
+  -- The status is `BadWords` exactly when the words ask for nothing.
   pub says : (status ≡ BadWords) ↔ AreBad words
   -- With this status nothing is read.
   pub source_kept : status ≡ BadWords → IsUntouched source

@@ -100,10 +100,10 @@ fn check<S: Source, K: Sink>(alloc: Global, source: &mut S, sink: &mut K) -> Sta
 ///
 /// The line for query K is `query K accepted` or `query K rejected`. A query is rejected if it has no answer, or if its answer
 /// isn't a certificate. An answer without a query is rejected too. The first rejection ends the check. If there is none, the last
-/// line is `checked COUNT`, where COUNT is the number of answers. Then each answer is a certificate, and what it claims about all
-/// infinite configurations is true.
+/// line is `checked COUNT`, where COUNT is the number of answers. In this case each answer is a certificate, and what it claims
+/// about all infinite configurations is true.
 ///
-/// Three kinds of input are refused, each by one line:
+/// Three kinds of input are refused, each with one line:
 /// - `refused long`: the input has more than `MOST_OUTPUT` bytes.
 /// - `refused at OFFSET`: the input isn't an output. OFFSET is the length of its longest prefix with which an output can begin.
 /// - `refused script C KIND`: the script part of the output isn't a script. C is the number of the command at fault, and KIND says

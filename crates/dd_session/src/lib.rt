@@ -2,13 +2,14 @@
 //! a sample, which is a script that the program makes itself. A script asks queries about rules, configurations and automata. Its
 //! output has an answer to each query. Bytes are read from a source and written to a sink.
 //!
-//! Which answers to a query are right is defined in `dd_respond`. All right answers to a query have the same first line. A
-//! certificate is an answer that a check accepts. Each right answer is a certificate, and what a certificate claims is true.
+//! `dd_answer` defines which answers to a query are right. All right answers to a query have the same first line. A certificate
+//! is an answer that a check accepts. Each right answer is a certificate, and what a certificate claims is true. An answer is
+//! UNKNOWN if its query wasn't settled within the limits on the work for one answer. All other answers are definite.
 //!
-//! A box question has a rule and a goal, such as that another rule is broken. The question asks whether the goal occurs in no
-//! configuration that obeys the rule. Some queries come down to box questions. For these a run asks the engines of a roster,
-//! which is a list of engines, before it searches. An engine is any value that proposes a result of the search. Each proposal
-//! is checked. An engine is sound if all that it proposes is right.
+//! Some queries come down to box questions. A box question has a rule (its premise) and a goal: a property of a position, such
+//! as that another rule is broken there. It asks whether no configuration that obeys the premise has the goal at any position.
+//! For such a query a run asks the engines of a roster, which is a list of engines, before it searches. An engine is any value
+//! that proposes a result of the search. Each proposal is checked. An engine is sound if all that it proposes is right.
 #![tactic(auto)]
 
 mod checking;

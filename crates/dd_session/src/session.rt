@@ -251,9 +251,10 @@ fn run_sample<K: Sink, E: Engine>(
 /// in decimal without a leading zero. For each query the first line of a right answer is written as soon as it is known. The line
 /// `end` comes last. The source is left as it is.
 ///
-/// If the source fails, nothing is written. If the sink fails or memory runs out, perhaps only a prefix of the text was written.
+/// If the source fails, nothing is written. If the sink fails or memory runs out, perhaps only a prefix of the full text was
+/// written.
 ///
-/// `run` and `sample` ask the engines of the roster before each search that a box question takes. What is written is right,
+/// `run` and `sample` ask the engines of the roster before each search that a box question needs. What is written is right,
 /// whatever the engines propose. A run comes to its end if its status is `Definite` or `SomeUnknown`. The status and the first
 /// line of each answer are the same with every roster with which the run comes to its end. With some rosters it may not come to
 /// its end, since an engine may run out of memory.

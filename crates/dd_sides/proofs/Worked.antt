@@ -53,7 +53,7 @@ past_corner = refl
 off_the_plane : is_in_grown 2 3 1 (place (pos 0) (pos 0) (pos 0)) (place (pos 0) (pos 0) (pos 1)) ≡ false
 off_the_plane = refl
 
--- A rule of the line. In the filling, each even x has the symbol 1, and each odd x the symbol 0. So two of the four positions
+-- A rule on the line, and a filling: each even x has the symbol 1, and each odd x the symbol 0. So two of the four positions
 -- from -1 on have a 1.
 abbrev line : LocalRule
 line = record { dimension = 1; nodes = 1; symbols = 2; allowed = (true ∷ true ∷ []) ∷ []; edges = []; formula = roll-Formula (Formula-F.And []) }
@@ -64,9 +64,9 @@ alternating c = Some ((unsigned_abs c.position.x + 1) % 2)
 two_of_four : side_weight line (0 ∷ 3 ∷ []) alternating 4 (place (negsuc 0) (pos 0) (pos 0)) ≡ 6
 two_of_four = refl
 
--- Suppose that of any two neighbours on a line one has the symbol 1. The bound is 1 / 2: over the denominator 2, a 0 gives 0
--- to the right, and a 1 gives 1. Of three positions 0 1 0 only the middle one has a 1. What may come in from the left makes up
--- for the rest: 3 = 2 * 1 + 1.
+-- Suppose that of any two neighbours on a line at least one has the symbol 1. The bound is 1 / 2: over the denominator 2, a 0
+-- gives 0 to the right, and a 1 gives 1. Of three positions 0 1 0 only the middle one has a 1. What may come in from the left
+-- makes up for the rest: 3 = 2 * 1 + 1.
 abbrev middle : Look
 middle c = Some (unsigned_abs c.position.x % 2)
 

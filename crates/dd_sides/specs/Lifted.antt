@@ -10,7 +10,8 @@ use Rattle.dd_rows.specs.{declared.rows.Rows.Rows, Programs.IsProgramOf}
 use Rattle.dd_discharge.specs.{declared.bound.Bound.Bound, Amounts.held_over}
 use Rattle.dd_sides.specs.{Sides.IsSideFilling, Sides.side_weight, Boundaries.boundary}
 
--- how far around a position a row looks: the radius, plus the margin, plus the greatest absolute value of an entry of a vector
+-- How far around a position a row looks: the radius, plus the margin, plus the greatest absolute value of an entry of a vector. A row is a linear
+-- inequality between what a position holds, gives, has and receives.
 abbrev pub reach_of : ℕ → ℕ → List Place → ℕ
 reach_of radius margin vs = radius + margin + greatest (map extent vs)
 

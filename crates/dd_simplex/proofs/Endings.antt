@@ -1,4 +1,4 @@
--- At the end, the values of the columns and the duals are feasible and give the same value, so no other values of the columns give more.
+-- At the end, the values of the columns and the duals are feasible and give the same value, so no other feasible values of the columns give more.
 use Rattle.std.proofs.Common.{◌≡◌, ◌≢◌, ℕ, zero, suc, ◌+◌, ◌-◌, ◌<◌, List, length, Bool, true, false, cond, None, refl, sym, ap, subst, ◌∙◌, arith}
 use Rattle.std.specs.Bool.{nat_lt}
 use Rattle.dd_fraction.specs.{Exact.Exact, Exact.plus, Exact.times, Exact.minus, Exact.low, Order.IsNonneg, Order.IsAtMost}
@@ -189,7 +189,7 @@ module _ (p : LinearProgram) (d : Dictionary) (g : IsProgram p) (r : IsReached p
           ∙ ((λ i. plus (sym (column_alone j t (dictionary_coefficient d v)) i) (sym slacks i))
           ∙ (side_at zero_of (λ w. unit w j) (λ k. minus (coefficient p k j)) (column_meets j t) v q b ∙ zero_times (d.bound v)))
 
-  -- ---- no values of the columns give more
+  -- ---- no feasible values of the columns give more
   no_more : entering (count p) d ≡ None → (xs : List Exact) → IsFeasible p xs → IsAtMost (fraction_at xs 0) d.value
   no_more h xs f = at_most_from_less X d.value (fraction_at xs 0) sum less
     where

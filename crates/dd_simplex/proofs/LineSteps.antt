@@ -22,7 +22,7 @@ back_sizes rows back leaving new r v e p s sizes n =
     All-weaker (λ l. length l.cells ≡ length (line_at rows r).cells) (λ l. length l.cells ≡ length new.cells) (λ l h. h ∙ sym size) back
     (subst (All (λ l. length l.cells ≡ length (line_at rows r).cells)) (sym parts.1) (All-drop (λ l. length l.cells ≡ length (line_at rows r).cells) (suc r) rows sizes))
 
--- applying f to all rows but row r, and putting p in its place, is the same as applying f to all rows and then replacing row r by p
+-- applying f to all elements but the one at r, which p replaces, is the same as applying f to all elements and then replacing the one at r by p
 rows_go : {A B : Type 0} (f : A → B) (xs : List A) (r : ℕ) (p : B) → r < length xs → map f (take r xs) ++ p ∷ map f (drop (suc r) xs) ≡ slice_set (map f xs) r p
 rows_go f [] r p h = absurd (omega arith)
 rows_go f (x ∷ xs) zero p h = refl

@@ -111,7 +111,7 @@ sign_cases (pos zero) = inr (omega (arith, ints))
 sign_cases (pos (suc n)) = inl (omega (arith, ints))
 sign_cases (negsuc n) = inr (omega (arith, ints))
 
--- for b and y of at least 0, b - a · y is at least 0 if a isn't greater than 0, or if y is at most b / a
+-- if b and y are at least 0, then so is b - a · y, provided that y is at most b / a if a is greater than 0
 bound_sign : (a b y : Exact) → IsNonneg b → IsNonneg y → (IsPositive a → IsAtMost y (times b (inverse a))) → IsNonneg (less_product b a y)
 bound_sign a b y p q least = ⊎_elim up down (sign_cases a.num)
   where

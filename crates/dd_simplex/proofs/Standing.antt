@@ -1,4 +1,4 @@
--- The code makes the same choices, and its tests of numbers have the same results, as those for the dictionary that its table stands for.
+-- A table and the dictionary that it stands for agree on which variable enters, which one leaves, and whether the numbers of the ratios fit.
 use Rattle.std.proofs.Common.{◌≡◌, ℕ, ◌<◌, ◌≤◌, length, Bool, true, false, not, ◌&&◌, ◌||◌, Option, Some, None, refl, sym, ap, subst, ◌∙◌, arith}
 use Rattle.std.specs.Ordering.{is_gt}
 use Rattle.dd_fraction.specs.{Exact.Exact, Exact.times, Exact.inverse, Order.IsAtMost, Order.exact_cmp}

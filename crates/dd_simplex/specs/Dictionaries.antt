@@ -1,6 +1,6 @@
 -- A dictionary gives its basic variables v, and the objective z, in terms of its nonbasic variables w:
 -- x_v = bound v - Σ_w entry v w · x_w and z = value + Σ_w cost w · x_w (Dantzig, Linear Programming and Extensions, 1963;
--- in this form Chvátal, Linear Programming, 1983). The right side for x_v is the row of v.
+-- in this form Chvátal, Linear Programming, 1983). The equation for x_v is the row of v.
 -- Column j is the variable j, and the slack of row k is the variable columns + k.
 use Rattle.std.specs.Prelude.{ℕ, ◌+◌, ◌-◌, length, Bool, not, ◌&&◌, ◌||◌, cond}
 use Rattle.std.specs.Bool.{nat_eq, nat_lt}

@@ -1,6 +1,6 @@
 -- The run by Bland's rule (1977). Of the variables that may enter, the lowest-numbered one enters; of those that may leave, the lowest-numbered one
--- leaves. A number fits if it is at most 2^127 - 1 in absolute value. The run stops with the best value, at a limit on its pivots, or at a number
--- that doesn't fit.
+-- leaves. A number fits if it is at most 2^127 - 1 in absolute value. The numbers of a sum, a product or a quotient are those that come up before it
+-- is brought to lowest terms. The run stops with the best value, at a limit on its pivots, or at a number that doesn't fit.
 use Rattle.std.specs.Prelude.{◌≡◌, ℕ, zero, suc, ◌+◌, ◌<◌, List, length, Bool, true, not, ◌&&◌, ◌||◌, cond, Option, Some, None}
 use Rattle.std.specs.{Bool.nat_eq, Int.RustNames.int_lt, Ordering.is_gt}
 use lib.IntN.{pos}

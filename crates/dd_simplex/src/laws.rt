@@ -12,9 +12,9 @@ pub fn one_stop(_program: &Program, _pivots: u32)
     let _columns = _program.columns();
 }
 
-/// Does nothing; its contract is about the dictionaries of a run. Their rows are linear combinations of the program's rows.
-/// Their objective is column 0, less such a combination. No bound falls below 0. Whenever a variable enters, another leaves,
-/// so no run is unbounded.
+/// Does nothing; its contract is about the dictionaries of a run. Their rows, which are the equations of the basic variables,
+/// are linear combinations of the program's rows. Their objective is column 0, less such a combination. No bound falls below
+/// 0. Whenever a variable enters, another leaves, so no run finds column 0 unbounded.
 pub fn sound_pivots(_program: &Program)
     ensures { AreSoundDictionaries _program.now }
 {

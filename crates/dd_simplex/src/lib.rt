@@ -1,7 +1,8 @@
 //! Linear programs over exact fractions, maximised by the simplex method with Bland's rule. A column is a variable of the
-//! program, and a row is an inequality. Column 0 is maximised. The slack of a row is its bound less its left side. Columns and
-//! slacks are the variables of a dictionary. The dictionary gives some of them, the basic ones, and the objective in terms of
-//! the others, the nonbasic ones. In a pivot, one nonbasic variable enters, which means that it becomes basic, and one basic
+//! program. A row is an inequality: its left side is at most its bound. The slack of a row is its bound less its left side.
+//! The objective is column 0, which is maximised. A dictionary has the columns and the slacks as its variables. It gives some
+//! of them, the basic ones, and the objective in terms of the others, the nonbasic ones. The cost of a nonbasic variable is its
+//! coefficient in the objective. In a pivot, one nonbasic variable enters, which means that it becomes basic, and one basic
 //! variable leaves. Duals are factors for the rows. They prove that the value found for column 0 is the greatest.
 #![tactic(auto, using(std::proofs::lemmas::Grind::common_steps))]
 

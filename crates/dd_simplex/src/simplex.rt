@@ -15,8 +15,8 @@ use std::alloc::{AllocError, Global};
 ///
 /// # Errors
 /// - `Memory` if memory ran out. Otherwise:
-/// - `Overflow` exactly if a number in the run is greater than 2^127 - 1 in absolute value.
-/// - `Pivots` exactly if a variable may still enter after `pivots` pivots.
+/// - `Overflow` exactly when a number in the run is greater than 2^127 - 1 in absolute value.
+/// - `Pivots` exactly when a variable may still enter after `pivots` pivots.
 pub fn maximise(alloc: Global, program: &Program, pivots: u32) -> Result<Solved, SimplexFault>
     ensures ends { IfOk result (λ solved. RunEnds program.now pivots solved.value solved.columns solved.duals) }
     ensures best { IfOk result (λ solved. IsBest program.now solved.value solved.columns solved.duals) }

@@ -57,7 +57,8 @@ fn copied(alloc: Global, fractions: &[Fraction]) -> Result<Vec<Fraction>, AllocE
     Ok(copy)
 }
 
-/// Returns the fraction itself. The contract adds what holds of every `Fraction`: it is in lowest terms, and its numbers fit.
+/// Returns the fraction itself. The contract adds what holds of every `Fraction`: it is in lowest terms, and its numerator and
+/// denominator are at most 2^127 - 1 in absolute value.
 fn known(fraction: &Fraction) -> Fraction
     ensures value { result ≡ fraction.now }
     ensures fraction { IsFraction fraction.now }

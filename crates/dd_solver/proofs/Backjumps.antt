@@ -1,5 +1,5 @@
--- The backjump. The learned clause forces the literal kept first once the trail is cut before the backjump's decision, because the entries kept later
--- stand before that decision.
+-- The backjump. Once the trail is cut before the backjump's decision, the learned clause forces the literal that was kept first. This is so because
+-- the entries kept later stand before that decision.
 use Rattle.std.proofs.Common.{◌≡◌, ℕ, ◌+◌, ◌<◌, ◌≤◌, Bool, true, false, List, [], ◌∷◌, ◌++◌, Option, Some, None, refl, ap, sym, ◌∙◌, subst, length, get_or, take, inl, inr, ◌⊎◌, arith}
 use Rattle.std.proofs.lemmas.Bool.{false≢true, false_from_ne_true, cases_lt}
 use Rattle.std.specs.Option.{MatchOption}
@@ -10,8 +10,8 @@ use Rattle.dd_solver.specs.{declared.analysis.Backjump.Backjump, declared.analys
 use Rattle.dd_solver.specs.searching.Analysis.{marks, ChoiceSays, Asserts}
 use Rattle.dd_solver.proofs.{Forcing.in_left, Forcing.in_cases, Forcing.in_one, Forcing.forced_from, Trails.apart}
 
--- The backjump's literal belongs to an entry at its place or later. The other learned literals are false before that place. No
--- entry from that place to before place i is marked.
+-- The backjump's literal is the negated literal of an entry at the backjump's place or later. The other learned literals are false before that
+-- place. No entry from that place up to but excluding place i is marked.
 pub record BackjumpOk (trail : List Entry) (i : ℕ) (marked : List Bool) (learned : List Literal) (t : Backjump) : Type 0 where
   pub top : (u : ℕ) × (t.place ≤ u) × (u < length trail) × ((d : Entry) → t.literal ≡ negation (get_or trail u d).literal)
   pub decided : (d : Entry) → (get_or trail t.place d).reason ≡ None

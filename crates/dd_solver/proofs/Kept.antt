@@ -1,5 +1,5 @@
 -- The marked steps of a refutation are a refutation too. A hint of a marked step names a clause of the list or of a
--- marked step. So its new number is known where the hint is used, and names the same clause.
+-- marked step. So this clause is known under its new number where the hint is used.
 use Rattle.std.proofs.Common.{◌≡◌, ℕ, suc, ◌<◌, ◌≤◌, Bool, true, false, cond, ◌&&◌, ◌||◌, List, [], ◌∷◌, ◌++◌, map, Option, Some, None, refl, ap, sym, ◌∙◌, subst, length, inl, inr, ◌⊎◌, arith}
 use Rattle.std.proofs.lemmas.Bool.{and_parts, and_from, or_cases, or_left, or_right, false≢true, eqb-true, eq-eqb}
 use Rattle.std.proofs.lemmas.List.{length-append, Elements.All-nil, Elements.All-cons}
@@ -86,7 +86,7 @@ right_kept n keep rename old new s k a r =
     let c = (and_parts (is_conflict old s.clause s.hints) _ q.1).0 in
     and_from _ _ q.0 (and_from _ _ (conflict_renamed old new rename s.clause s.hints (λ h x i e. a h x (k h (known_within old x h e) i) e) c) refl)
 
--- the clauses after a step
+-- the known clauses after a step
 abbrev after_step : Known → Step → Known
 after_step old s = known_after old s.deletes ++ Some s.clause ∷ []
 

@@ -16,7 +16,7 @@ use Rattle.dd_solver.specs.searching.Analysis.{marks, Grows, AreMarked, IsMarked
 use Rattle.dd_solver.proofs.Forcing.{in_left, in_right, in_cases, in_one, falsified_all, all_falsified, forced_from, hint_clause, at_clause}
 use Rattle.dd_solver.proofs.Trails.{apart}
 
--- `start` may be the list of the false literals when the hints for the entries from place i on begin
+-- `start` may be the list of the false literals just before the hints for the entries from place i on are followed
 pub record Start (trail : List Entry) (i : ℕ) (marked : List Bool) (learned start : List Literal) : Type 0 where
   pub within : (x : Literal) → In start x → (In (falses (take i trail)) x) ⊎ (In learned x)
   pub learned_in : (x : Literal) → In learned x → In start x
@@ -38,7 +38,7 @@ Covers known marked r = (c : List Literal) → clause_of known r ≡ Some c → 
 pub covers_from : (known : List (Option (List Literal))) (marked : List Bool) (r : ℕ) → IsMarkedClause known marked r → Covers known marked r
 covers_from known marked r h c e = let m : AreMarked marked c = subst (λ (o : Option (List Literal)). MatchOption o ⊤ (AreMarked marked)) e h in m
 
--- at the top of the trail, once the variables of the conflict's clause are marked, its number alone, as a hint, leads to a conflict
+-- at the top of the trail, once the variables of the falsified clause are marked, its number alone, as a hint, leads to a conflict
 pub leads_conflict : (known : List (Option (List Literal))) (trail : List Entry) (marked : List Bool) (r : ℕ) → hint_finding known (is_among (falses trail)) r ≡ Falsified → Covers known marked r → Leads known trail (length trail) marked [] (r ∷ [])
 leads_conflict known trail marked r h m start s =
     let q = hint_clause known (is_among (falses trail)) r Falsified (λ e. cc) h in
@@ -84,7 +84,7 @@ leads_kept known trail j d marked learned hints l leads start s =
     })
 
 module _ (n : ℕ) (known : List (Option (List Literal))) (trail : List Entry) (ok : IsTrail n known trail) where
-  -- no literal of the entry's variable is among those that are false when the hints begin
+  -- no literal of `start` has the entry's variable
   new_variable : (j : ℕ) (d : Entry) (marked : List Bool) (learned start : List Literal) (x : Literal) → j < length trail → AreFrom trail (j + 1) learned → Start trail j marked learned start → x.variable ≡ (get_or trail j d).literal.variable → is_among start x ≡ false
   new_variable j d marked learned start x l later s v = false_from_ne_true (is_among start x) (λ i. elim (s.within x i) [
     | inl a ↦ (let w = in_falses_take trail j x (omega arith) a in

@@ -44,7 +44,7 @@ forced_new known xs r l h = false_from_ne_true _ (λ t.
       | inr e ↦ false≢true (sym f.not_true ∙ subst (In xs) e w.1)
     ])
 
--- if all numbers of clauses find `Open`, all numbers do: a number without a clause falsifies nothing and forces nothing
+-- if each clause says `Open`, `hint_finding` is `Open` for every number, because a number without a clause falsifies nothing and forces nothing
 pub all_open : (known : Known) (p : Literal → Bool) → ((r : ℕ) → 0 < r → r ≤ length known → hint_finding known p r ≡ Open) → (r : ℕ) → hint_finding known p r ≡ Open
 all_open known p h zero = refl
 all_open known p h (suc k) = elim (cases_lt (length known) (suc k)) [

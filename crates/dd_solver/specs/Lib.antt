@@ -4,5 +4,5 @@ pub mod Answers
 pub mod Trimming
 -- lemmas on these definitions, with their proofs
 pub mod lemmas
--- the state of the search and its parts
+-- the state of the search, the results of its parts, and the marks of trimming
 pub mod searching

@@ -1,8 +1,9 @@
-//! Which learned clauses are deleted, and when. The levels of a clause are the decision levels at which its literals got their
-//! values. A clause is worth more if it has fewer levels (Audemard and Simon 2009). From time to time a review deletes the worse
-//! half of the learned clauses that may be deleted. No clause that forced a literal of the trail is deleted. In the
-//! end, clauses that forced a literal and clauses that are not alive are taken out of the choice. So no contract depends on the
-//! counts kept here.
+//! Which learned clauses are deleted, and when. The decision level of a variable's value is the number of decisions on the
+//! trail up to and including the variable's entry. The levels of a clause are the decision levels at which its literals got
+//! their values. A clause is worth more if it has fewer levels (Audemard and Simon 2009). From time to time a review deletes
+//! the worse half of the learned clauses that may be deleted. No clause that forced a literal of the trail is deleted. Whatever
+//! a review chooses, clauses that forced a literal and clauses that are not alive are left out at the end. So no contract
+//! depends on the counts kept here.
 ghost use Rattle.std.specs.Prelude.{◌≡◌, ℕ, List, ◌<◌, false, length, IfOk, Some, slice_index_or};
 ghost use Rattle.dd_clause.specs.declared.clause.Literal.{Literal};
 ghost use Rattle.dd_solver.specs.searching.Deleting.{AreChosen, MayDelete};
@@ -26,8 +27,8 @@ const KEPT_LEVELS: u32 = 2;
 /// A clause with at most this many literals is never deleted.
 const KEPT_LENGTH: usize = 2;
 
-/// A learned clause that may be deleted. One candidate comes before another if it has fewer levels, or as many levels and is
-/// shorter, or is equal in both and newer. The half that comes first is kept.
+/// A learned clause that may be deleted. One candidate comes before another if it has fewer levels. If both have as many
+/// levels, the shorter one comes first, and if they are also equally long, the newer one. The half that comes first is kept.
 #[derive(Clone, Copy, PartialEq, Eq, PartialOrd, Ord)]
 struct Candidate {
     levels: u32,
@@ -126,8 +127,8 @@ impl Deletion {
         None
     }
 
-    /// Counts the levels of the clause with this number again, if it is a learned clause. Keeps the lower of the old and the new
-    /// count.
+    /// Counts the levels of the clause with this number again, if it is a learned clause that had more than `KEPT_LEVELS`
+    /// levels at the last count. Keeps the lower of the old and the new count.
     fn lower(&mut self, database: &Database, trail: &Trail, clauses: usize, number: u64) {
         let Some(place) = self.place(clauses, number) else {
             return;
@@ -171,7 +172,8 @@ impl Deletion {
         Ok(candidates)
     }
 
-    /// For each clause number, whether the clause is to be deleted. Of the clauses that may be deleted, the worse half is.
+    /// For each clause number, whether the clause is to be deleted. The worse half of the clauses that may be deleted is
+    /// chosen.
     fn choose(
         &self,
         alloc: Global,

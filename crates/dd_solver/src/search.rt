@@ -1,9 +1,10 @@
-//! The search (Marques-Silva and Sakallah 1999, Eén and Sörensson 2003). The trail lists the literals that are true, in the order
-//! in which they became true. The search first propagates: it makes literals true that clauses force. A conflict is a clause
-//! whose literals are all false. At a conflict, the search learns a clause, and goes back to where this clause forces a literal.
-//! If there is no conflict, it decides a variable. Each learned clause is a step of a refutation. The search ends, because the
-//! trail, read as a number in base 3, rises with each propagation, decision and backjump, and is bounded. In the contracts,
-//! `left` is the distance of this number from its bound.
+//! The search (Marques-Silva and Sakallah 1999, Eén and Sörensson 2003). The trail lists the literals that are true, in the
+//! order in which they became true. A clause forces a literal if all its other literals are false. The search first propagates:
+//! it makes forced literals true. A conflict is a clause whose literals are all false. At a conflict, the search learns a
+//! clause, and goes back to where this clause forces a literal; this is a backjump. If there is no conflict, it decides a
+//! variable, that is, it chooses a value for the variable. Each learned clause is a step of a refutation. The search ends,
+//! because the trail, read as a number in base 3, rises with each propagation, decision and backjump, and is bounded. In the
+//! contracts, `left` is the distance of this number from its bound.
 ghost use Rattle.std.specs.Prelude.{◌≡◌, ℕ, ◌+◌, ◌<◌, ◌≤◌, ◌^◌, ◌++◌, ◌∷◌, [], true, false, List, length, All, IfOk, OnOk, OnErr, MatchOption, IsTrue, ◌↔◌};
 ghost use Rattle.dd_clause.specs.declared.clause.Literal.{Literal};
 ghost use Rattle.dd_clause.specs.Clauses.{IsClauseInRange, Satisfies};
@@ -200,7 +201,8 @@ impl<'a> Search<'a> {
         Ok(())
     }
 
-    /// The values of the variables. They satisfy the clauses, as each variable must have a value and no clause may be falsified.
+    /// The values of the variables. The contract requires that each variable has a value and that no clause is falsified. So
+    /// these values satisfy the clauses.
     fn assignment(&self, alloc: Global) -> Result<Assignment, AllocError>
         requires open { AreOpen self.now }
         requires full { IsFull self.now.variables self.now.entries }

@@ -1,9 +1,9 @@
--- Strips. A strip has periods along y and z, and no end along x. A slice consists of its cells with one value of x.
+-- Strips. A strip has periods along y and z, and no end along x. A slice consists of the strip's cells with one value of x.
 use Rattle.std.specs.Prelude.{◌≡◌, ◌⊎◌, ℕ, ◌*◌, ◌<◌, ◌≤◌, List, length, slice_index}
 use Rattle.std.specs.List.{All}
 use Rattle.dd_values.specs.Bounds.{most_weight}
 use Rattle.dd_formula.specs.LocalRule.{LocalRule}
-use Rattle.dd_counts.specs.Rules.{states, longer_states, most_states, most_longer_states}
+use Rattle.dd_counts.specs.Rules.{states, window_count, most_states, most_windows}
 use Rattle.dd_strip.specs.declared.strip.Strip.{Strip}
 
 -- the strip with these periods along y and z, and this number of nodes at each position
@@ -27,7 +27,8 @@ pub record IsSized (s : Strip) : Type 0 where
   pub z_most : s.z ≤ 64
   pub nodes_most : s.nodes ≤ 4
 
--- the strip is one for the rule: it has the rule's number of nodes, and the period 1 along each axis beyond the rule's dimension
+-- the strip is one for the rule: it is sized as above, it has the rule's number of nodes, and its period is 1 along each axis beyond the
+-- rule's dimension
 pub record IsFor (r : LocalRule) (s : Strip) : Type 0 where
   pub sized : IsSized s
   pub nodes : s.nodes ≡ r.nodes
@@ -57,8 +58,8 @@ strip_for r periods = strip_of (slice_index periods 0) (slice_index periods 1) r
 -- The rule's transfer graph over the strip (see dd_transfer) has too many states or too many windows. A window is like a state,
 -- but has one more slice.
 abbrev pub IsTooLarge : LocalRule → Strip → Type 0
-IsTooLarge r s = (most_states < states r (positions s)) ⊎ (most_longer_states < longer_states r (positions s))
+IsTooLarge r s = (most_states < states r (positions s)) ⊎ (most_windows < window_count r (positions s))
 
 -- the rule's transfer graph over the strip has few enough states and few enough windows
 abbrev pub IsFew : LocalRule → Strip → Type 0
-IsFew r s = (states r (positions s) ≤ most_states) × (longer_states r (positions s) ≤ most_longer_states)
+IsFew r s = (states r (positions s) ≤ most_states) × (window_count r (positions s) ≤ most_windows)

@@ -27,7 +27,8 @@ strip_fits r periods rule is = record {
 abbrev pub AreEdges : LocalRule → Strip → Type 0
 AreEdges r s = (look : Look) → RepeatsAcross s look → AreEdgesOf r s look
 
--- p / q is m / l divided by a, the number of positions in a slice. So a bound by m / l for the weight of n slices is also a bound by p / q
+-- p / q is m / l divided by a, the number of positions in a slice. So if n slices weigh at least m / l each on average, they weigh at least p / q per
+-- position.
 at_least : (p q m l n a w : ℕ) → 0 < l → p * (l * a) ≡ m * q → m * n ≤ l * w → p * (a * n) ≤ q * w
 at_least p q m l n a w some same h =
     let one : (p * (a * n)) * l ≡ (p * (l * a)) * n = omega arith in

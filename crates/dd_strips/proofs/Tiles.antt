@@ -136,7 +136,7 @@ module _ (r : LocalRule) (s : Strip) (t : Tile) (for : IsFor r s) (on : IsOnStri
       ∙ (ap (λ (b : Bool). unwrap_or (cond b (slice_get t.symbols (tile_index t c)) None) 0) (lt-ltb _ _ node)
       ∙ (value_at t.symbols (tile_index t c) ∙ ap (λ (n : ℕ). get_or t.symbols n 0) at))
 
-  -- the weights of the slices of a period are the rows and columns of one table, which is the fundamental box
+  -- the weights of the positions of the fundamental box form a table: each slice is a column, and each pair of y and z is a row
   module _ (ws : List ℕ) where
     -- the weight of the symbol at a place of the list, and of the symbols of a position
     abbrev at : ℕ → ℕ

@@ -1,5 +1,5 @@
--- Slices that obey the rule form a walk. Along the walk, the potential rises by at most l times the slices' weight, less m for each slice. Ranks fall
--- by at least 1 at each step. Both follow from telescoping sums over the edges.
+-- Slices that obey the rule form a walk. Along a walk of j steps, the potential rises by at most l times the slices' weight, less m * j, and the rank
+-- falls by at least j. Both follow from telescoping sums over the edges.
 use Rattle.std.proofs.Common.{◌≡◌, ℕ, zero, suc, ◌+◌, ◌*◌, ◌<◌, ◌≤◌, List, map, ℤ, pos, ◌+ℤ◌, ◌≤ℤ◌, unsigned_abs, ap, sym, ◌∙◌, subst, arith}
 use Rattle.std.proofs.lemmas.{Int.ints, Nat.mod_below, List.Sums.sum_by-append}
 use Rattle.std.specs.{Prelude.◌<ℤ◌, Prelude.◌-ℤ◌, Prelude.slice_index, Prelude.unwrap_or, List.range_with_len}

@@ -9,7 +9,7 @@ use Rattle.dd_formula.specs.LocalRule.{LocalRule, is_true}
 use Rattle.dd_strip.specs.Strips.{strip_of}
 use Rattle.dd_strips.specs.{Strips.LivesNowhere, Strips.is_slice_cell, Strips.slices_weight, Strips.tile_weight, Claims.spread_of}
 
--- a rule of the line, over the symbols 0 and 1
+-- a one-dimensional rule over the symbols 0 and 1
 abbrev line : Formula → LocalRule
 line f = record { dimension = 1; nodes = 1; symbols = 2; allowed = (true ∷ true ∷ []) ∷ []; edges = []; formula = f }
 

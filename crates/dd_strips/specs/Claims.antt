@@ -1,4 +1,4 @@
--- What a certificate says about strips of every length.
+-- What a certificate says about fillings of any number of slices, and about configurations.
 use Rattle.std.specs.Prelude.{ℕ, ◌+◌, ◌*◌, ◌≤◌, ℤ, pos, ◌+ℤ◌, ◌-ℤ◌, unsigned_abs, List, [], ◌∷◌}
 use Rattle.std.specs.{Int.int_min, Int.int_max, List.fold}
 use Rattle.dd_pattern.specs.Reading.{Look}
@@ -7,7 +7,7 @@ use Rattle.dd_counts.specs.Rules.{state_length}
 use Rattle.dd_strip.specs.declared.strip.Strip.{Strip}
 use Rattle.dd_strips.specs.Strips.{IsAdmissibleStrip, slices_weight, IsLeastDensity, LivesNowhere}
 
--- take an admissible filling of as many slices as a state has, and j more; l times the weight of the last j slices is at least m * j - spread
+-- in an admissible filling with j slices more than a state has, l times the weight of the last j slices is at least m * j - spread
 abbrev pub IsHeavy : LocalRule → Strip → List ℕ → ℕ → ℕ → ℕ → Type 0
 IsHeavy r s ws m l spread =
     (j : ℕ) (x : ℤ) (look : Look) → IsAdmissibleStrip r s x (j + state_length r) look → m * j ≤ l * slices_weight s ws look (x +ℤ pos (state_length r)) j + spread

@@ -13,12 +13,12 @@ ghost use Rattle.dd_strips.specs.Claims.{StripLeast, StripEmpty, spread_of};
 use dd_transfer::slices_are_walks;
 
 /// Does nothing. Its contract says what a closed walk and potentials show:
-/// - The walk's mean, divided by the number of positions in a slice, is the least density of all configurations that live on
-///   the strip.
-/// - Take an admissible filling of as many slices as a state has, and `j` more. The last `j` slices weigh at least `j` times
-///   the walk's mean, less the spread of the potentials divided by the mean's denominator. The spread is the greatest
-///   potential less the least. A filling is admissible if the rule is true at each cell that lies in it together with all
-///   cells that the rule reads there.
+/// - The walk's mean is its weight divided by its length. Divided by the number of positions in a slice, this mean is the
+///   least density of all configurations that live on the strip.
+/// - In an admissible filling with `j` slices more than a state has, the last `j` slices weigh at least `j` times the walk's
+///   mean, less the spread of the potentials divided by the denominator of the mean in lowest terms. The spread is the
+///   greatest potential less the least. A filling is admissible if the rule is true at each cell that lies in it together with
+///   all cells that the rule reads there.
 pub fn strip_least()
     ensures { (r : LocalRule) (periods ws : List ℕ) (p q : ℕ) (walk : List ℕ) (ps : List ℤ) → IsRule r → IsStrip r periods →
         (c : IsDensityCertificate r (strip_for r periods) ws p q walk ps) → StripLeast r (strip_for r periods) ws p q c.l c.m (spread_of ps) }
@@ -35,8 +35,8 @@ pub fn strip_empty()
     slices_are_walks();
 }
 
-/// Does nothing. Its contract says that a strip has one least density: two fractions in lowest terms that are both its least
-/// density are the same.
+/// Does nothing. Its contract says that a strip has at most one least density: two fractions in lowest terms that are both its
+/// least density are the same.
 pub fn one_density()
     ensures { (r : LocalRule) (s : Strip) (ws : List ℕ) (p q a b : ℕ) → IsLeastDensity r s ws p q → IsLeastDensity r s ws a b →
         IsGcd p q 1 → IsGcd a b 1 → (p ≡ a) × (q ≡ b) }

@@ -1,5 +1,5 @@
--- Why the rounds of the search find the ball. The neighbours of a cell are found, at the latest, in the round after the cell itself was found. So
--- only the cells of the frontier can have neighbours that weren't found yet.
+-- Why the rounds of the search find the ball. The neighbours of a cell are found, at the latest, in the round after the one that finds the cell
+-- itself. So only the cells of the frontier can have neighbours that haven't been found yet.
 use Rattle.std.proofs.Common.{◌≡◌, ◌+◌, ◌<◌, ◌≤◌, ◌↔◌, ℕ, zero, suc, List, [], ◌∷◌, ◌++◌, Bool, true, false, ◌&&◌, refl, ap, sym, ◌∙◌, subst, inl, inr, ◌⊎◌, arith, take, get_or, length, Contains, true≢false, add-one, zero-add, suc-add, ◌-◌, eq-eqb}
 use Rattle.std.proofs.lemmas.List.{take_more}
 use Rattle.std.proofs.lemmas.List.Elements.{All-contains, All-cons, All-nil, Contains-append_left, Contains-append_right, Contains-append_cases}
@@ -18,7 +18,7 @@ use Rattle.dd_topology.specs.{keeping.Growth.AddsCells, lemmas.ListLaws.in_flat_
 use Rattle.dd_topology.specs.lemmas.OrderLaws.{kept-insert_key, has-insert_key, from-insert_key, is-in_order}
 use Rattle.dd_topology.proofs.BallLaws.{from_neighbours, into_neighbours, in_ball, ball_holds}
 
--- the cells found are those of the ball of radius r, and every neighbour of a found cell outside the frontier has been found too
+-- the cells found are those of the ball of radius r; if a found cell isn't in the frontier, all its neighbours have been found too
 pub record IsGrown (es : List Edge) (c : Cell) (r : ℕ) (found frontier : List Cell) : Type 0 where
   pub members : (d : Cell) → Contains found d ↔ IsInBall es c r d
   pub in_range : All (λ d. IsInRange d.position) found

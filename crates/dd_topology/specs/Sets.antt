@@ -2,7 +2,7 @@
 use Rattle.std.specs.Prelude.{◌≡◌, ℕ, ◌≤◌, ◌==◌, Bool, true, false, List, [], length, map, slice_index_or, slice_set, replicate, All}
 use Rattle.std.specs.List.{list_any, range_with_len}
 
--- the size of the alphabet, and a row for each node, which says whether the node allows symbol 0, symbol 1, and so on
+-- the size of the whole alphabet, and a row for each node, which says whether the node allows symbol 0, symbol 1, and so on
 pub record SymbolSets : Type 0 where
   pub symbols : ℕ
   pub allowed : List (List Bool)
@@ -35,7 +35,7 @@ all_symbols nodes m = symbol_sets m (replicate nodes (replicate m true))
 abbrev pub is_listed : List ℕ → ℕ → Bool
 is_listed symbols t = list_any (λ s. s == t) symbols
 
--- the row, for an alphabet of m symbols, of a node that allows exactly the listed ones
+-- the row of a node that allows exactly the listed ones of the m symbols
 abbrev pub symbol_row : ℕ → List ℕ → List Bool
 symbol_row m symbols = map (is_listed symbols) (range_with_len 0 m)
 

@@ -9,7 +9,7 @@ use std::marker::Model;
 #[derive(Debug, Drop)]
 pub struct Sets {
     nodes: u32,
-    /// How many symbols the alphabet has.
+    /// How many symbols the whole alphabet has.
     symbols: u32,
     /// Whether each node allows each symbol: a row of `symbols` answers for each node, one row after another.
     allowed: Vec<bool>,
@@ -78,7 +78,7 @@ impl Sets {
         symbol < self.symbols && self.allowed[node as usize * size + symbol as usize]
     }
 
-    /// The size of the alphabet.
+    /// The size of the whole alphabet.
     pub fn symbols(&self) -> u32
         ensures value { result ≡ self.now.symbols }
         ensures kept { IsSets (length self.now.allowed) self.now }

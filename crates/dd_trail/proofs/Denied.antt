@@ -82,7 +82,7 @@ room_more n trail denied e v r f =
     let w = valued_of n (trail ++ e ∷ []) (denied_more n trail denied e v r f).news in
     omega (arith, length_within (trail ++ e ∷ []) w.0 w.2, w.1, length-append trail (e ∷ []))
 
--- a variable is free exactly if neither of its literals is false
+-- a variable is free exactly when neither of its literals is false
 pub free_exactly : (n : ℕ) (trail : List Entry) (denied : List Bool) (v : ℕ) (a b : Bool) → IsDenied n trail denied → 1 ≤ v → v ≤ n → get_or denied (2 * v) false ≡ a → get_or denied (2 * v + 1) false ≡ b → IsTrue (not a && not b) ↔ IsFree n trail v
 free_exactly n trail denied v a b ok h k e g = (λ t. (h, k, fresh a b e g t), λ f. held a b e g f.2)
   where
@@ -108,7 +108,7 @@ free_exactly n trail denied v a b ok h k e g = (λ t. (h, k, fresh a b e g t), �
     held false true e g f = absurd (false≢true (sym (absent (falses trail) (signed v true) v refl f) ∙ sym high ∙ g))
     held false false e g f = refl
 
--- each variable has a value exactly if there are as many entries as variables
+-- each variable has a value exactly when there are as many entries as variables
 pub full : (n : ℕ) (trail : List Entry) (denied : List Bool) (m : ℕ) → IsDenied n trail denied → m ≡ length trail → IsTrue (eqb m n) ↔ IsFull n trail
 full n trail denied m ok e =
     let w = valued_of n trail ok.news in

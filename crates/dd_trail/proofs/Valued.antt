@@ -58,7 +58,7 @@ count-set [] i o h = absurd (omega arith)
 count-set (x ∷ values) zero o h = omega arith
 count-set (x ∷ values) (suc i) o h = omega (arith, count-set values i o (omega arith))
 
--- a literal of an entry's variable is false exactly if it is the negation of the entry's literal
+-- a literal of an entry's variable is false exactly when it is the negation of the entry's literal
 same_denied : (v p : Bool) → not (beq v p) ≡ beq p (not v)
 same_denied true true = refl
 same_denied true false = refl
@@ -111,7 +111,7 @@ at_most (Some x ∷ xs) = omega (arith, at_most xs)
 pub length_within : (trail : List Entry) (values : List (Option Bool)) → IsValued trail values → length trail ≤ length values
 length_within trail values v = omega (arith, v.count_ok, at_most values)
 
--- on a trail without entries, one more variable, without a value, changes nothing
+-- values that fit a trail without entries still fit it with one more variable that has no value
 pub valued_wider : (values : List (Option Bool)) → IsValued [] values → IsValued [] (values ++ None ∷ [])
 valued_wider values v = record {
   news = λ k d h. absurd (omega arith);
@@ -156,7 +156,7 @@ valued_entry trail values v ok a b h =
     let s = denied_valued w.0.positive (get_or values (w.0.variable - 1) None) (ok.values_ok w.0 r ∙ w.1) in
     subst (λ (n : ℕ). one_if_some (get_or values (n - 1) None) ≡ 1) w.2 s
 
--- each variable has a value exactly if there are as many entries as variables
+-- each variable has a value exactly when there are as many entries as variables
 pub full_exactly : (trail : List Entry) (values : List (Option Bool)) (n m : ℕ) → IsValued trail values → n ≡ length trail
     → m ≡ length values → IsTrue (eqb n m) ↔ IsFull (length values) trail
 full_exactly trail values n m ok e f = (

@@ -1,5 +1,5 @@
-//! The clauses that a search may use, by number. Those of the list come first, and then the learned ones. Deleted clauses are
-//! left out, but keep their numbers.
+//! The clauses that a search may use, by number. Those of the given list come first, and then the learned ones. Deleted clauses
+//! are left out, but keep their numbers.
 ghost use Rattle.std.specs.Prelude.{◌≡◌, ◌≤◌, ◌+◌, length};
 ghost use Rattle.std.specs.Option.{option_copied};
 ghost use Rattle.dd_derivation.specs.Derivations.{clause_of};
@@ -28,8 +28,8 @@ impl<'a> Model for Database<'a> {
 }
 
 impl<'a> Database<'a> {
-    /// The database of the clauses of a list and of the steps after it. The clause with number k is alive, that is, not deleted,
-    /// if `alive[k - 1]` is true.
+    /// The database of the clauses of a list, followed by those of the steps. A step is a learned clause with hints that show
+    /// that it follows. The clause with number k is alive, that is, not deleted, if `alive[k - 1]` is true.
     pub fn new(clauses: &'a [Clause], steps: &'a [Step], alive: &'a [bool]) -> Database<'a>
         requires { length clauses.now + length steps.now ≤ length alive.now }
         ensures { result ≡ known_to clauses.now steps.now alive.now }

@@ -1,7 +1,8 @@
 //! The parts of a search for an assignment that satisfies clauses. The trail holds the literals that are true, in the order in
-//! which they became true. A clause forces a literal if all its other literals are false. Each clause watches two of its
-//! literals, by which the search finds what is forced next. If nothing is forced, it decides a variable, that is, it chooses a
-//! value for the variable. An order says which variable is decided next.
+//! which they became true. A clause forces a literal if all its other literals are false. A conflict is a clause whose literals
+//! are all false. At a conflict, the search learns a clause: it resolves the conflict with clauses that forced literals. Each
+//! clause watches two of its literals. With these watches the search finds what is forced next. If nothing is forced, it
+//! decides a variable, that is, it chooses a value for the variable. An order says which variable is decided next.
 #![tactic(auto)]
 
 mod database;

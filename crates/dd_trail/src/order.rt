@@ -29,9 +29,9 @@ const FOCUSED_PART: u64 = 20;
 #[derive(Clone, Copy, Debug)]
 pub enum Style {
     /// A conflict counts for a long time, as each adds only a little more than the one before. The variables of the learned
-    /// clause become more active a second time, and so do those of the clauses that forced their values (Liang, Ganesh, Poupart
-    /// and Czarnecki 2016). This style is better where a contradiction lies deep among many variables, as on boxes and in
-    /// pigeonhole problems.
+    /// clause become more active a second time. After that, the variables of the clauses that forced their values become more
+    /// active too (Liang, Ganesh, Poupart and Czarnecki 2016). This style is better where a contradiction lies deep among many
+    /// variables, as on boxes and in pigeonhole problems.
     Broad,
     /// The latest conflicts count most, as each adds clearly more than the one before. In a conflict, a variable becomes more
     /// active only once, however many of the resolved clauses contain it, as in MiniSat (Eén and Sörensson 2003). This style is
@@ -197,7 +197,7 @@ impl Order {
         Some(first)
     }
 
-    /// A literal of a variable without a value, the first such variable in the order. `None` if each variable has a value.
+    /// A literal of the first variable in the order that has no value. `None` if each variable has one.
     pub fn choose(&mut self, trail: &Trail) -> Option<Literal>
         requires { trail.now.variables < 2 ^ 32 }
         ensures { MatchOption result (IsFull trail.now.variables trail.now.entries) (λ l. IsFree trail.now.variables trail.now.entries l.variable) }

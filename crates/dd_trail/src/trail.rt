@@ -1,8 +1,9 @@
-//! The literals that are true, in the order in which they became true. A list says of each literal whether it is false, so to
-//! ask this takes constant time.
+//! The literals that are true, in the order in which they became true. A list says of each literal whether it is false, so this
+//! can be looked up in constant time.
 //!
-//! Reasons, levels and places are meant for variables that have a value. No contract depends on them, and no invariant says that
-//! their indices are within the lists. So the code tests these indices. For variables that have a value, the tests never fail.
+//! A variable has a reason, a level and a place (see `Entry` and `Spot`) only while it has a value. No contract depends on
+//! them, and no invariant says that their indices are within the lists. So the code tests these indices. For variables that
+//! have a value, the tests never fail.
 ghost use Rattle.std.specs.Prelude.{◌≡◌, ℕ, ◌+◌, ◌<◌, ◌≤◌, ◌^◌, ◌++◌, ◌∷◌, [], true, false, length, take, slice_set, ◌-◌, IfOk, OnOk, OnErr, MatchOption, IsTrue, ◌↔◌};
 ghost use Rattle.dd_clause.specs.Clauses.{IsLiteralInRange};
 ghost use Rattle.dd_values.specs.Variables.{true_variables};

@@ -1,8 +1,8 @@
-//! Two watched literals (Moskewicz, Madigan, Zhao, Zhang and Malik 2001). Each clause watches two of its literals, and needs no
-//! look while neither of them is false. So when a literal becomes false, only the clauses that watch it are looked at. When the
-//! search goes back, nothing has to be undone. The watches only suggest clauses, and each suggested clause is tested exactly. So
-//! no contract depends on the watches: a clause that they miss only costs time. No invariant says that the places kept here are
-//! within their lists. So the code tests these places. The tests never fail.
+//! Two watched literals (Moskewicz, Madigan, Zhao, Zhang and Malik 2001). Each clause watches two of its literals, and need not
+//! be looked at while neither of them is false. So when a literal becomes false, only the clauses that watch it are looked at.
+//! When the search goes back, nothing has to be undone. The watches only suggest clauses, and each suggested clause is tested
+//! exactly. So no contract depends on the watches: a clause that they miss only costs time. No invariant says that the places
+//! kept here are within their lists. So the code tests these places. The tests never fail.
 //!
 //! Each literal has a list of its watchers, which are the clauses that watch it. To pass a watcher is to look at its clause. The
 //! clause then stays in the list, or moves to the list of another literal.
@@ -59,7 +59,7 @@ const END: Code = Code { index: 0 };
 struct Watcher {
     /// The place of the clause's first literal in `Watches::literals`.
     clause: u32,
-    /// Another literal of the clause. While that one is true, the clause needs no look.
+    /// Another literal of the clause. While that one is true, the clause need not be looked at.
     other: Code,
 }
 
@@ -83,7 +83,7 @@ pub struct Watches {
     at: usize,
     /// The clauses with numbers up to this one have been looked at once since they were added.
     scanned: u64,
-    /// Whether there are watchers of deleted clauses.
+    /// Whether deleted clauses may still be among the watchers.
     has_deleted: bool,
 }
 
@@ -94,7 +94,8 @@ enum Look {
     Stays(Code),
     /// The clause now watches the first of these literals instead. The second is the other literal that it watches.
     Moves(Code, Code),
-    /// All literals of the clause but the other one that it watches are false. That one is not true: it is false or has no value.
+    /// All literals of the clause are false, except perhaps the other one that it watches. That one is not true: it is false or
+    /// has no value.
     AllFalse,
 }
 
@@ -188,7 +189,7 @@ fn is_alive(alive: &[bool], number: u32) -> bool {
 }
 
 impl Watches {
-    /// Watches over this many variables, without any clauses.
+    /// The watches for this many variables, without any clauses.
     pub fn new(alloc: Global, variables: usize) -> Result<Watches, AllocError>
         requires { variables < 2 ^ 32 }
     {
@@ -254,8 +255,8 @@ impl Watches {
         }
     }
 
-    /// Drops the literals and the watchers of the clauses that are not alive. The other clauses watch their first two literals
-    /// again.
+    /// Drops the clauses that are not alive: their literals, and their entries in the lists of watchers. The other clauses
+    /// watch their first two literals again.
     fn drop_deleted(&mut self, alive: &[bool]) -> Result<(), AllocError> {
         for list in self.lists.iter_mut() {
             list.clear();

@@ -1,4 +1,4 @@
--- The windows of a look are edges of the transfer graph exactly if the rule keeps them.
+-- The windows of a look are edges of the transfer graph exactly when the rule keeps them.
 use Rattle.std.proofs.Common.{◌≡◌, ℕ, ◌+◌, ◌*◌, ◌%◌, ◌^◌, ◌<◌, true, List, [], ◌∷◌, ℤ, pos, ◌+ℤ◌, ◌≤ℤ◌, unsigned_abs, Option, refl, ap, sym, ◌∙◌, subst, arith}
 use Rattle.std.proofs.lemmas.{Bool.and_parts, Bool.and_from, Bool.ltb-true, Int.ints, Nat.mod-mul-add}
 use Rattle.std.proofs.Math.Nat.{pow-suc, pow-zero}

@@ -1,4 +1,5 @@
--- The window that begins at x in a look has the symbols that the look has there. So the rule keeps this window exactly if it keeps the look at x.
+-- The window that begins at x in a look has the symbols that the look has there. So the rule is true at a cell of the window's tested slice exactly
+-- when it is true at the corresponding cell of the look.
 use Rattle.std.proofs.Common.{◌≡◌, ℕ, zero, suc, ◌+◌, ◌*◌, ◌/◌, ◌%◌, ◌<◌, ◌≤◌, Bool, true, false, List, [], ◌∷◌, length, ℤ, pos, ◌+ℤ◌, ◌≤ℤ◌, unsigned_abs, Option, Some, None, refl, ap, sym, ◌∙◌, subst, arith, inl, inr}
 use Rattle.std.proofs.lemmas.Int.{ints}
 use Rattle.std.proofs.lemmas.Bool.{and_parts, and_from, cases_lt, lt-ltb, ltb-true}
@@ -126,7 +127,7 @@ module _ (r : LocalRule) (s : Strip) (look : Look) (x : ℤ) (for : IsFor r s) (
   moved_twice : (v : Place) (d : Cell) → shifted (along x) (shifted v d) ≡ shifted (moved v (along x)) d
   moved_twice v d = ap (λ (p : Place). cell p d.node) (place_same _ _ _ _ _ _ (sum_moved d.position.x v.x x) (sum_moved d.position.y v.y (pos 0)) (sum_moved d.position.z v.z (pos 0)))
 
-  -- the rule is true in the window, at a cell of the tested slice, exactly if it is true in the look at the cell that is x further along the first
+  -- the rule is true in the window, at a cell of the tested slice, exactly when it is true in the look at the cell that is x further along the first
   -- axis
   pub truth_same : IsRule r → (v : Place) (a : ℕ) → v.x ≡ stand r → a < r.nodes → is_true r (cell v a) (part r s look x) ≡ is_true r (cell (moved v (along x)) a) look
   truth_same rule v a at node =

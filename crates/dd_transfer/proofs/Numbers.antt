@@ -29,7 +29,7 @@ followed base n (d ∷ ds) =
 pub joined : (base : ℕ) (ds es : List ℕ) → number_with_digits base (ds ++ es) ≡ number_with_digits base ds * base ^ length es + number_with_digits base es
 joined base ds es = fold-append (step base) 0 ds es ∙ followed base (number_with_digits base ds) es
 
--- the digits of the number n followed by ds: those of n, then ds
+-- if the digits ds are appended to those of the number n, the digits of the resulting number are those of n, then ds
 after : (base m n : ℕ) (ds : List ℕ) → All (λ d. d < base) ds → digits base (m + length ds) (fold (step base) n ds) ≡ digits base m n ++ ds
 after base m n [] ok = ap (λ (k : ℕ). digits base k n) (let e : m + 0 ≡ m = omega arith in e) ∙ sym (append-nil (digits base m n))
   where

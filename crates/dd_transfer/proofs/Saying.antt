@@ -1,4 +1,4 @@
--- The formulas are true of a window's symbols exactly if the rule is true at the cells of the tested slice.
+-- The formulas are true of a window's symbols exactly when the rule is true at the cells of the tested slice.
 use Rattle.std.proofs.Common.{◌≡◌, ℕ, zero, suc, ◌+◌, ◌<◌, Bool, true, false, List, [], ◌∷◌, ◌++◌, length, get_or, Option, Some, None, Result, Ok, Err, IfOk, pos, ◌+ℤ◌, refl, ap, sym, ◌∙◌, subst, arith, inl, inr}
 use Rattle.std.proofs.lemmas.Bool.{and_from, and_parts, cases_lt}
 use Rattle.std.proofs.lemmas.List.{get_or_append_left, get_or_push, length-append}
@@ -21,7 +21,7 @@ symbol_cond : (ss : List ℕ) (b : Bool) (o : Option ℕ) → symbol_with ss (co
 symbol_cond ss true o = refl
 symbol_cond ss false o = refl
 
--- reading a cell c by these numbers gives what the look of the window has at c moved by v
+-- reading a cell c by its number relative to v gives what the look of the window has at c moved by v
 near_reads : (s : Strip) (v : Place) (ss : List ℕ) (c : Cell) → read_by (numbers_near (standpoint s v)) ss c ≡ window_look s ss (shifted v c)
 near_reads s v ss c = symbol_cond ss (int_le (pos 0) (c.position.x +ℤ v.x) && nat_lt c.node s.nodes) (Some (window_index s (shifted v c)))
 

@@ -7,7 +7,7 @@ use Rattle.std.specs.Prelude.{cond, nat_lt, ◌&&◌, slice_index, slice_index_o
 use Rattle.std.specs.List.{All}
 use Rattle.dd_pattern.specs.Weight.{total_weight}
 use Rattle.dd_formula.specs.LocalRule.{LocalRule, IsRule}
-use Rattle.dd_counts.specs.Rules.{slices, states, longer_states, state_length}
+use Rattle.dd_counts.specs.Rules.{slices, states, window_count, state_length}
 use Rattle.dd_strip.specs.{declared.strip.Strip.Strip, Strips.IsSized, Strips.IsFor, Strips.cells, Strips.positions, Strips.HasWeights}
 use Rattle.dd_transfer.specs.Graphs.{transfer, target, next_of, window_of}
 use Rattle.dd_transfer.specs.Windows.{AreWindows, IsWindow, digits}
@@ -125,7 +125,7 @@ some_states r s n rule is = omega (arith, is, power_some (slices r (positions s)
 
 -- these parts make the transfer graph of the rule
 pub graph_is : (r : LocalRule) (s : Strip) (ws : List ℕ) (n count : ℕ) (windows : List Bool) (weights : List ℕ) → IsRule r → IsFor r s → HasWeights r ws →
-    n ≡ states r (positions s) → count ≡ longer_states r (positions s) → n ≤ 4096 → count ≤ 131072 → AreWindows r s count windows →
+    n ≡ states r (positions s) → count ≡ window_count r (positions s) → n ≤ 4096 → count ≤ 131072 → AreWindows r s count windows →
     length weights ≡ count / n → ((t : ℕ) → t < count / n → get_or weights t 0 ≡ slice_weight r s ws t) → IsGraphOf r s ws (transfer n (count / n) windows weights)
 graph_is r s ws n count windows weights rule for has n_is count_is few small are len weigh =
     let b = r.symbols in
@@ -137,7 +137,7 @@ graph_is r s ws n count windows weights rule for has n_is count_is few small are
     let m_is : m ≡ b ^ c = ap (λ (x : ℕ). b ^ (x * positions s)) (sym for.nodes) in
     let m_some : 0 < m = power_some b (r.nodes * positions s) b_some in
     let n_some : 0 < n = omega (arith, n_is, power_some m w m_some) in
-    let q_is : count / n ≡ m = ap (λ (x : ℕ). x / n) count_is ∙ (ap (λ (x : ℕ). longer_states r (positions s) / x) n_is ∙ divided m w m_some) in
+    let q_is : count / n ≡ m = ap (λ (x : ℕ). x / n) count_is ∙ (ap (λ (x : ℕ). window_count r (positions s) / x) n_is ∙ divided m w m_some) in
     let all : count ≡ n * (count / n) = count_is ∙ (more_power m w ∙ (ap (λ (x : ℕ). x * m) (sym n_is) ∙ ap (λ (x : ℕ). n * x) (sym q_is))) in
     let here : AreWindows r s (n * (count / n)) windows = subst (λ (x : ℕ). AreWindows r s x windows) all are in
     let powers : (b ^ c) ^ (w + 1) ≤ 131072 = subst (λ (x : ℕ). x ^ (w + 1) ≤ 131072) m_is (omega (arith, small, count_is)) in

@@ -76,7 +76,7 @@ reads_between r a lt =
     sym (list_all-in_order (between lo hi) (reads_at r a))
     ∙ part (between lo hi) (cells_at r) 0 r.nodes a (omega arith) (omega arith) (all_between (pos 0) (pos 0) lo hi (all_cells r) (omega (arith, ints)) (omega (arith, ints)))
 
--- a cell whose x lies between the two, taken relative to the tested slice, lies in the window
+-- if the x of a cell, relative to the tested slice, lies between the least and the greatest x, the cell lies in the window
 pub within_window : (r : LocalRule) (x : ℤ) → between (least_x (pos 0) (all_cells r)) (greatest_x (pos 0) (all_cells r)) (record { position = record { x = x; y = pos 0; z = pos 0 }; node = 0 }) ≡ true →
     (pos 0 ≤ℤ (x +ℤ stand r)) × (unsigned_abs (x +ℤ stand r) < state_length r + 1)
 within_window r x h =

@@ -1,10 +1,10 @@
 -- Transfer graphs. A slice lies at one value of x and gives a symbol to each cell there. A state consists of consecutive slices.
 -- An edge by a slice leads from a state to the state that results if the first slice is dropped and this slice is appended.
 use Rattle.std.specs.Prelude.{◌≡◌, ℕ, ◌+◌, ◌*◌, ◌%◌, ◌<◌, ◌≤◌, ◌^◌, Bool, false, ◌&&◌, cond, nat_lt, List, length, slice_index, slice_index_or, Option, Some, None}
-use Rattle.dd_counts.specs.Rules.{most_states, most_longer_states}
+use Rattle.dd_counts.specs.Rules.{most_states, most_windows}
 
--- Slices are numbered. Rows of slices are numbered too: the digits are the slices, and the first slice is the most significant digit. A window is a
--- state followed by one more slice.
+-- Slices are numbered. Rows of slices, such as states, are numbered too: the digits are the slices, and the first slice is the most significant
+-- digit. A window is a state followed by one more slice.
 pub record Transfer : Type 0 where
   pub states : ℕ
   pub slices : ℕ
@@ -40,8 +40,8 @@ pub record IsTransfer (g : Transfer) : Type 0 where
   pub some_state : 0 < g.states
   pub some_slice : 0 < g.slices
   pub few : g.states ≤ most_states
-  pub small : g.states * g.slices ≤ most_longer_states
-  -- by this, the number of a state's last slice is the state's number modulo the number of slices
+  pub small : g.states * g.slices ≤ most_windows
+  -- because of this, the number of a state's last slice is the state's number modulo the number of slices
   pub divides : g.states % g.slices ≡ 0
-  -- by this, a walk that passes each state at most once weighs at most 2^25
+  -- because of this, a walk that passes each state at most once weighs at most 2^25
   pub light : (t : ℕ) → t < g.slices → g.states * weight_at g t ≤ 2 ^ 25

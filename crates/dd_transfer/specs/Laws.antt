@@ -27,7 +27,7 @@ pub record AreEdgesOf (r : LocalRule) (s : Strip) (look : Look) : Type 0 where
   -- if all cells of the window that begins at x have symbols, so do the cells of the tested slice and all cells that the rule reads there
   pub reads : (x : ℤ) (v : Place) (a : ℕ) → HasSlices r look x (state_length r + 1) → v.x ≡ x +ℤ stand r → a < r.nodes →
       (is_some (look (cell v a)) && list_all (λ d. is_some (look (shifted v d))) (reads_at r a)) ≡ true
-  -- the look's window that begins at x has a number; the rule keeps the window with this number exactly if it keeps the look's
+  -- the look's window that begins at x has a number; the rule keeps the window with this number exactly when it keeps the look's
   -- window
   pub windows : (x : ℤ) → HasSlices r look x (state_length r + 1) → IsWindow r s (window_from r s look x) ↔ IsKeptFrom r look x
   -- if the rule keeps the look's window that begins at x, an edge by the window's last slice leads from the state that begins at

@@ -13,7 +13,7 @@ use Rattle.dd_transfer.specs.Windows.{cell_at, stand, IsTrueAlong}
 abbrev pub across : Strip → Place → Place
 across s v = place v.x (pos (residue v.y s.y)) (pos (residue v.z s.z))
 
--- the look repeats across the strip: cells that are the same modulo the strip's periods have the same symbol, or none
+-- the look repeats across the strip: two cells that are the same modulo the strip's periods have the same symbol, or both have none
 abbrev pub RepeatsAcross : Strip → Look → Type 0
 RepeatsAcross s look = (c : Cell) → look c ≡ look (cell (across s c.position) c.node)
 

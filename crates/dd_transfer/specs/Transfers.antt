@@ -2,7 +2,7 @@
 use Rattle.std.specs.Prelude.{◌≡◌, ◌↔◌, ℕ, ◌+◌, ◌*◌, ◌%◌, ◌<◌, ◌≤◌, List, Some}
 use Rattle.dd_pattern.specs.Weight.{total_weight}
 use Rattle.dd_formula.specs.LocalRule.{LocalRule}
-use Rattle.dd_counts.specs.Rules.{slices, states, longer_states}
+use Rattle.dd_counts.specs.Rules.{slices, states, window_count}
 use Rattle.dd_transfer.specs.declared.fault.TransferFault.{TransferFault}
 use Rattle.dd_transfer.specs.declared.fault.TransferFault.TheVariants.{Size, Memory}
 use Rattle.dd_transfer.specs.{Graphs.Transfer, Graphs.IsTransfer, Graphs.next_of, Graphs.weight_at, Windows.digits, Windows.IsWindow}

@@ -49,8 +49,8 @@ numbered_window r s number = window_look s (digits r.symbols (window_cells r s) 
 abbrev pub IsTrueAlong : LocalRule → ℤ → Look → Type 0
 IsTrueAlong r x look = (v : Place) (a : ℕ) → v.x ≡ x → is_flat r.dimension v ≡ true → a < r.nodes → is_true r (cell v a) look ≡ true
 
--- the x coordinate of a window's tested slice: the least x of at least 0 such that the rule, evaluated at cells with this x, reads no cell to the
--- left of the window
+-- the x coordinate of a window's tested slice: the least nonnegative x such that the rule, evaluated at cells with this x, reads no cell to
+-- the left of the window
 abbrev pub stand : LocalRule → ℤ
 stand r = pos 0 -ℤ least_x (pos 0) (all_cells r)
 

@@ -1,6 +1,6 @@
 //! Builds the transfer graph of a rule over a strip.
 ghost use Rattle.std.specs.Prelude.{◌≡◌, ◌<◌, ◌≤◌, ℕ, IfOk, IfErr, length, slice_index};
-ghost use Rattle.dd_counts.specs.Rules.{slices, states, longer_states, most_states, most_longer_states};
+ghost use Rattle.dd_counts.specs.Rules.{slices, states, window_count, most_states, most_windows};
 ghost use Rattle.dd_pattern.specs.Weight.{AreWeights, total_weight};
 ghost use Rattle.dd_formula.specs.LocalRule.{IsRule};
 ghost use Rattle.dd_strip.specs.Strips.{IsFor, cells, positions, IsStrip, HasWeights, strip_for};
@@ -13,7 +13,7 @@ use crate::graphs::Graph;
 use crate::placing::formulas;
 use crate::standing::stand;
 use crate::windows::{Window, write_digits};
-use dd_counts::{MOST_LONGER_STATES, MOST_STATES, longer_states, state_length, states};
+use dd_counts::{MOST_STATES, MOST_WINDOWS, state_length, states, window_count};
 use dd_formula::Rule;
 use dd_pattern::weight_of;
 use dd_strip::Strip;
@@ -23,8 +23,8 @@ use std::alloc::{AllocError, Global};
 /// `weights[s]`.
 ///
 /// # Errors
-/// `Size` if the graph would have more than 4,096 states or more than 131,072 windows. A window is a state followed by one
-/// more slice. Otherwise `Memory`, if memory runs out.
+/// `Size` if the graph would have more than 4,096 states or more than 131,072 windows. Otherwise `Memory`, if memory runs
+/// out. A window is a state followed by one more slice.
 pub fn graph(
     alloc: Global,
     rule: &Rule,
@@ -45,8 +45,8 @@ pub fn graph(
     if states > MOST_STATES {
         return Err(TransferFault::Size);
     }
-    let count = longer_states(rule, strip.positions(), MOST_LONGER_STATES);
-    if count > MOST_LONGER_STATES {
+    let count = window_count(rule, strip.positions(), MOST_WINDOWS);
+    if count > MOST_WINDOWS {
         return Err(TransferFault::Size);
     }
     Ok(graph_of(alloc, rule, strip, weights, states, count)?)
@@ -65,9 +65,9 @@ fn graph_of(
     requires strip { IsFor rule.now strip }
     requires weights { HasWeights rule.now weights.now }
     requires states { most ≡ states rule.now (positions strip) }
-    requires count { count ≡ longer_states rule.now (positions strip) }
+    requires count { count ≡ window_count rule.now (positions strip) }
     requires few { most ≤ most_states }
-    requires small { count ≤ most_longer_states }
+    requires small { count ≤ most_windows }
     ensures { IfOk result (IsGraphOf rule.now strip weights.now) }
 {
     let slices = count / most;

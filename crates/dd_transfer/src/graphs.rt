@@ -68,7 +68,7 @@ impl Graph {
         }
     }
 
-    /// The state to which the edge from `state` by `slice` leads. `None` exactly if there is no such edge.
+    /// The state to which the edge from `state` by `slice` leads. `None` exactly when there is no such edge.
     pub fn next(&self, state: u32, slice: u32) -> Option<u32>
         ensures value { result ≡ next_of self.now state slice }
         ensures kept { IsTransfer self.now }

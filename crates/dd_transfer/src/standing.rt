@@ -20,7 +20,7 @@ fn least_read(rule: &Rule) -> i32
     least
 }
 
-/// The x coordinate of the tested slice. It is the least x of at least 0 such that the rule, evaluated at cells with this x,
+/// The x coordinate of the tested slice. It is the least nonnegative x such that the rule, evaluated at cells with this x,
 /// reads no cell to the left of the window.
 pub(crate) fn stand(rule: &Rule) -> i32
     ensures value { result ≡ stand rule.now }

@@ -25,7 +25,7 @@ impl Model for Window {
     ghost invariant = { λ w. IsSized w.strip };
 }
 
-/// Writes the digits of a number in a base, the most significant first.
+/// Fills `symbols` with the last digits of a number in a base, the most significant first.
 pub(crate) fn write_digits(symbols: &mut [u32], base: u32, number: u32)
     requires { 0 < base }
     ensures { symbols.new ≡ digits base (length symbols.old) number }
@@ -40,7 +40,7 @@ pub(crate) fn write_digits(symbols: &mut [u32], base: u32, number: u32)
 }
 
 /// Replaces the digits of a number by those of the next number. The last digit that isn't the greatest possible one rises by
-/// 1, and the digits after it become 0.
+/// 1, and the digits after it become 0. If there is no such digit, all become 0.
 pub(crate) fn advance_digits(symbols: &mut [u32], base: u32)
     requires { 0 < base }
     ensures { (n : ℕ) → symbols.old ≡ digits base (length symbols.old) n → symbols.new ≡ digits base (length symbols.old) (n + 1) }

@@ -52,8 +52,8 @@ fn no_cell_has_two_symbols(rt: HostRuntime) -> Result<(), Fail> {
     Ok(())
 }
 
-/// The number of clauses of a question on the largest box or torus, up to this radius and this period. The premise is the
-/// script's first rule, and the goal has `goal` clauses.
+/// The number of clauses of a question on the box of this radius, or on the torus with this period if that has more positions.
+/// The premise is the script's first rule, and the goal has `goal` clauses.
 fn size_of(script: &Script, goal: u32, radius: u32, period: u32) -> Result<u32, Fail> {
     if radius > 8 {
         return Err("a radius".into());
@@ -68,9 +68,9 @@ fn size(alloc: Global, script: &str, goal: u32, radius: u32, period: u32) -> Res
     size_of(&script, goal, radius, period)
 }
 
-/// A script with a rule, the number of clauses of the goal, a radius, a period, and the number of clauses of the question on the
-/// largest box or torus. Along each axis this box or torus has `2 * radius + 1` or `period` positions, whichever is more. Each
-/// cell, even at the edge, has:
+/// A script with a rule, the number of clauses of the goal, a radius, a period, and the number of clauses of the question on
+/// the box or the torus, whichever has more positions. Along each axis it has `2 * radius + 1` or `period` positions, whichever
+/// is more. Each cell, even at the edge, has:
 /// - one clause that says that it has a symbol;
 /// - for each two symbols, one that says that it doesn't have both;
 /// - for each symbol that its node doesn't allow, one that says that it doesn't have this symbol;
@@ -117,9 +117,9 @@ const SIZES: [(&str, u32, u32, u32, u32); 18] = [
     ("%rule x Ep[o1] p=1", 1, 8, 8, 2602),
     ("%dim 3 %rule x Ep[o1] p=1", 0, 1, 4, 704),
     ("%dim 3 %rule x Ep[o1] p=1", 0, 8, 8, 54_043),
-    // The ball has 63 cells. A gate over these gives 64 + 3 clauses on each of 17 * 17 * 17 positions. Together with the goal's
-    // clauses they are as many as the limit allows. In the second rule each cell of the ball has two gates over two parts, and
-    // one gate over these two. This exceeds the limit, so the count is cut off.
+    // A ball of radius 3 has 63 cells. With one gate over these, there are 64 + 3 clauses on each of 17 * 17 * 17 positions.
+    // Together with the goal's clauses they are as many as the limit allows. In the second rule each cell of the ball has two
+    // gates over two parts, and one gate over these two. This exceeds the limit, so the count is cut off.
     ("%dim 3 %rule x Ap[o3] p=1", 1_670_829, 8, 8, 2_000_000),
     ("%dim 3 %rule x Ap[o3] p=o", 0, 8, 8, 2_000_001),
 ];

@@ -1,5 +1,5 @@
-// A question about images or a conjugacy becomes pairs of automata, and asks whether the two automata of a pair agree. Here both
-// are applied to a configuration.
+// A question about images or a conjugacy becomes pairs of automata: it asks whether the two automata of each pair agree. Here
+// both automata of a pair are applied to a configuration.
 
 use crate::scripts::{parsed, script_of};
 use dd_automaton::apply;

@@ -11,9 +11,9 @@ type Pattern = &'static [Option<u32>];
 
 const HARD: &str = "%rule x o=1 -> (o.rt=0 & o.up=0)";
 
-// The neighbours of the first node are the second nodes at (0,-1), (-1,0) and (0,0). Those of the second node are the first nodes
-// at (0,0), (1,0) and (0,1). At each node the rule reads four cells: the node and its neighbours. In cell order, the first node
-// is the third of its four cells, and the second node is the second of its four cells.
+// The neighbours of the first node of the origin are the second nodes at (0,-1), (-1,0) and (0,0). Those of the second node are
+// the first nodes at (0,0), (1,0) and (0,1). At each node the rule reads four cells: the node and its neighbours. In cell
+// order, the first node is the third of its four cells, and the second node is the second of its four cells.
 const HEXAGONS: &str = "%topology hex %rule x Ap[o1] (p~o -> !(p=1 & o=1))";
 
 const SECOND_IS_1: &str = "%topology hex %only 1 1 %rule x Ap[o1] (p~o -> !(p=1 & o=1))";

@@ -42,12 +42,12 @@ fn reaches(alloc: Global, premise: &Rule, goal: &Goal, radius: u32) -> Result<bo
     ensures { IfOk result (λ found. IsTrue found → Reaches (goal_of premise.now goal.now) radius) }
 {
     one_radius(premise, goal, radius);
-    // This call tells the proof what the type guarantees.
+    // This call tells the proof what the type `Rule` guarantees.
     let _symbols = premise.symbols();
     Ok(least_radius(alloc, goal)? <= radius)
 }
 
-/// The clauses of a box question on a small box: on the line of radius 0 or 1, in the plane of radius 0.
+/// The clauses of a box question on a small box. Its radius must be 0 or 1 on the line, and 0 in the plane.
 #[tactic(auto, using(crate::proofs::Counting::few_in_a_box, crate::proofs::Counting::few_at_the_origin))]
 pub(crate) fn clauses_of(
     alloc: Global,

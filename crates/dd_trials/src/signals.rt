@@ -42,8 +42,9 @@ fn inputs_of(alloc: Global, cells: &[Cell], symbols: u32) -> Result<Inputs, Allo
     Ok(inputs)
 }
 
-/// Compiles the rule to a template, and places the template at a node of the origin, in a new circuit with this many input
-/// variables. Returns the circuit and the signal of the rule.
+/// Compiles the rule to a template: the rule's gates at a node, to be placed at that node of any position. Then places the
+/// template at the node of the origin, in a new circuit with this many input variables. Returns the circuit and the signal of
+/// the rule.
 fn placed(
     alloc: Global,
     rule: &Rule,
@@ -139,7 +140,8 @@ fn truths(alloc: Global, rule: &Rule, node: u32) -> Result<Vec<(Option<bool>, bo
     Ok(truths)
 }
 
-/// The number of fillings for which the rule is true. Asserts that the rule's signal has the rule's truth for each filling.
+/// The number of fillings for which the rule is true. Asserts that for each filling the value of the rule's signal is the truth
+/// of the rule.
 fn times_true(rt: &impl Abort, truths: &[(Option<bool>, bool)]) -> usize {
     for (truth, value) in truths {
         assert_eq!(rt; *truth, Some(*value));

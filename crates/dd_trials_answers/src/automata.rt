@@ -26,7 +26,7 @@ const AGREEMENTS: [(&str, &str); 6] = [
         "%dim 1 %rule alt o!=o.rt %auto id when o=1 give 1 else 0 %auto op when o.rt=1 give 0 else 1 %same id op alt",
         "query 1 YES 1\n",
     ),
-    // `ex` exchanges the symbols of the two nodes of each position. Applied twice it is the identity, applied once it isn't.
+    // `ex` exchanges the symbols of the two nodes of each position. Applied twice, it is the identity; applied once, it isn't.
     (
         "%topology hex %rule full o@o %auto ex when o.a=1 give 1 else 0 %auto id when o=1 give 1 else 0 %compose twice ex ex %same twice id full %same ex id full",
         "query 1 YES 0\nquery 2 NO 1 1\n",

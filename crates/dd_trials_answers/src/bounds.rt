@@ -21,7 +21,7 @@ const DISCHARGES: [(&str, &str); 16] = [
         "%topology king %rule dom Ep[o1] p=1 %discharge dom 0 0 [1 0] [-1 0] [0 1] [0 -1] [1 1] [-1 -1] [1 -1] [-1 1]",
         "query 1 BOUND 1/9\n",
     ),
-    // A quarter of the cells, and each position has two cells.
+    // At least a quarter of the cells are 1. The bound is for the weight per position, and each position has two cells.
     (
         "%topology hex %rule dom Ep[o1] p=1 %discharge dom 0 0 [1 0] [-1 0] [0 1] [0 -1]",
         "query 1 BOUND 1/2\n",
@@ -75,16 +75,17 @@ const DISCHARGES: [(&str, &str); 16] = [
         "%rule full o@o %discharge full 2 0 [1 0]",
         "query 1 UNKNOWN large\n",
     ),
-    // Nothing forces any cell to have a weight.
+    // All cells may be 0, and a 0 weighs nothing.
     (
         "%dim 1 %rule full o@o %discharge full 0 0 [1]",
         "query 1 BOUND 0/1\n",
     ),
 ];
 
-// Whole answers, with their amounts and duals. docs/wrong-bodies.md says what the bounds mean for small boxes. By the first rule
-// a 0 has a 1 to its right, and by the second a 1 three steps away. By the last rule the cell two steps to the right is a 1. With
-// the margin the region also has the cell two steps to the left of the origin, and there the rule forces the origin to be a 1.
+// Whole answers, with their amounts and duals. docs/wrong-bodies.md disproves wrong laws about boxes with the last two. By the
+// first rule a 0 has a 1 to its right, and by the second a 1 three steps away. By the last rule the cell two steps to the right
+// of any cell is a 1. With the margin the region also has the cell two steps to the left of the origin, and there the rule
+// forces the origin to be a 1.
 const WHOLE_BOUNDS: [(&str, &str); 3] = [
     (
         "%dim 1 %rule cover o=1 | o.rt=1 %discharge cover 0 0 [1]",
@@ -147,7 +148,7 @@ const CHECKED: [(&str, bool); 14] = [
         "query 1 DENSITY 1/2\ncycle 2 0 1\npotentials 0 1\nquery 2 BOUND 1/2\ndenominator 3\namounts 0 1\nduals 0 1 1\n",
         false,
     ),
-    // Amounts that violate the row of a 1 followed by a 0.
+    // Amounts that violate the linear program's row for a 1 followed by a 0.
     (
         "query 1 DENSITY 1/2\ncycle 2 0 1\npotentials 0 1\nquery 2 BOUND 1/2\ndenominator 2\namounts 1 0\nduals 0 1 1\n",
         false,

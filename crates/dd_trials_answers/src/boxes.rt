@@ -1,5 +1,6 @@
-// Answers to box questions, compared by their first lines. A box question asks whether a configuration that obeys one rule, the
-// premise, can have a goal at the origin, such as breaking another rule. YES means that none can, and NO that one does.
+// Answers to box questions, most of them compared by their first lines. A box question has a premise, which is a rule, and a
+// goal, such as that another rule is broken. It asks whether no configuration that obeys the premise has the goal at the
+// origin. YES means that none has, and NO that one has.
 use crate::outputs::{assert_answers, assert_lines};
 use std::test::Fail;
 

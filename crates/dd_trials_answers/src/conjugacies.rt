@@ -68,7 +68,7 @@ const LOSING: &str =
 // Lines of answers to this script, and whether a check accepts them.
 const CHECKED: [(&str, bool); 10] = [
     ("query 1 BROKEN 3 2\nconf 1 0\n", true),
-    // An answer need not name the first question that is NO, nor the first periods.
+    // An answer need not name the first question whose answer is NO, nor give the first periods.
     ("query 1 BROKEN 4 2\nconf 1 0\n", true),
     ("query 1 BROKEN 3 3\nconf 1 0 0\n", true),
     ("query 1 UNKNOWN limits\n", true),

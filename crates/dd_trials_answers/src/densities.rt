@@ -13,12 +13,13 @@ const DENSITIES: [(&str, &str); 15] = [
         "%rule dom Ep[o1] p=1 %density dom [5]",
         "query 1 DENSITY 1/5\n",
     ),
-    // The largest graph: 256 states, and 256 slices that are tried after each.
+    // The graph with the most slices to try: 256 states, and 256 slices after each.
     (
         "%rule hard o=1 -> (o.rt=0 & o.up=0) %density hard [8]",
         "query 1 DENSITY 0/1\n",
     ),
-    // A 0 weighs 1. Of the seven cells of a slice, which is a ring, three can be 1. The next slice has its 1s beside these.
+    // A 0 weighs 1. Of the seven cells of a slice, which is a ring, three can be 1. In the next slice the 1s are one step
+    // further round the ring.
     (
         "%weights 1 0 %rule hard o=1 -> (o.rt=0 & o.up=0) %density hard [7]",
         "query 1 DENSITY 4/7\n",
@@ -63,7 +64,7 @@ const DENSITIES: [(&str, &str); 15] = [
         "%dim 1 %nodes a b %topology (r a [1] a) %only b 1 %rule full o@o %density full []",
         "query 1 DENSITY 1/1\n",
     ),
-    // A rule that no configuration obeys, and colourings with two colours of strips of circumference three and four.
+    // A rule that no configuration obeys. Then strips of circumference three and four, coloured with two colours.
     (
         "%dim 1 %rule stuck o.rt=1 & !(o=1 & o.rt=1) %density stuck []",
         "query 1 EMPTY\n",
@@ -105,7 +106,7 @@ const CHECKED_CYCLES: [(&str, bool); 9] = [
     ("query 1 EMPTY\nranks 1 0\n", false),
 ];
 
-// A slice has four cells, so the mean of a cycle is four times the density.
+// A slice has four cells, so the mean weight of a slice on the cycle is four times the density.
 const ROUND: &str = "%rule two o!=o.up & o!=o.rt %density two [4]";
 
 const CHECKED_ROUND: [(&str, bool); 2] = [

@@ -99,11 +99,11 @@ pub(crate) const CONNECTIVES_AND_QUANTIFIERS: [(&str, &str); 2] = [
 // The cell 15 moves to the right of `p`. If `p` is two moves from `o`, this is one move further than a rule may read.
 const FAR: &str = "p.rt.rt.rt.rt.rt.rt.rt.rt.rt.rt.rt.rt.rt.rt.rt";
 
-// Three nested quantifiers. Each inner one ranges over the balls around the cells of the quantifier before it.
+// Three nested quantifiers. Each inner one ranges over the ball around the cell of the quantifier before it.
 const LARGE: &str = "Ap[o3] Aq[p3] Ar[q3]";
 
-// Scripts in which the words FAR and LARGE stand for these texts, and the last line of the output. This line says which limit the
-// script exceeds, if any.
+// Scripts in which the words FAR and LARGE stand for these texts, and the last line of the output. This line says why the
+// script is refused, or it is the `end` of an output.
 const EXPANSIONS: [(&str, &str); 11] = [
     ("%rule a Ap[o1] FAR=0", "end"),
     ("%rule a Ap[o2] FAR=0", "refused 1 size reach"),

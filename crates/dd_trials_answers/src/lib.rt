@@ -1,5 +1,5 @@
 //! Tests of the answers that runs give to each kind of query, of the answers that a check accepts or rejects, and of what
-//! accepted answers exclude from configurations given as functions. These tests use only the public items of the crates that they
+//! accepted answers exclude from configurations, periodic or not. These tests use only the public items of the crates that they
 //! test.
 #![tactic(auto)]
 

@@ -26,8 +26,8 @@ const LISTS: [(&str, &str); 8] = [
         "%dim 1 %rule eq o=o.rt %minimal eq",
         "query 1 MINIMAL 2\npattern 0 0 1\npattern 0 1 0\n",
     ),
-    // A cell is left out only if the rule is false for all of the cell's allowed symbols. With the symbol 1, which isn't allowed,
-    // the rule is true.
+    // A cell is left out if the rule is false for all of the cell's allowed symbols. With the symbol 1 the rule is true, but 1
+    // isn't allowed.
     (
         "%dim 1 %alphabet 0 1 2 %only 0 0 2 %rule a o=1 | o.rt=0 %minimal a",
         "query 1 MINIMAL 1\npattern 0 * 2\n",

@@ -1,4 +1,4 @@
-// Sample scripts: the lines that answer them, worked out by hand, and words that ask for no sample.
+// Sample scripts: the lines that answer the smallest one, worked out by hand, and which words ask for a sample.
 use crate::outputs::assert_first_lines;
 use dd_engines::Roster;
 use dd_outside::{MemorySink, MemorySource, ReadAllFault, read_all};
@@ -23,11 +23,11 @@ const SMALLEST: &str = "%limits 3 3 1000\n\
     %discharge dom 0 0 [1 0] [-1 0] [0 1] [0 -1]\n";
 
 // Query 1: the chessboard has no two neighbouring 1s. Query 2: `hard` implies `row`, and the box of radius 1 has the cells that
-// this takes. Queries 3 and 4: by `row` a 1 may have a 1 above it. Alternating columns of 1s and 0s have the periods 2 and 1;
-// with the period 1 along a row, a 1 would be its own neighbour. Query 5: by `dies` a 1 has a 1 to its right, but no second one
-// after that, so there is no 1. To see this, the rule is needed at the 1 and at its right neighbour. There it reads the cell
-// three to the right of the 1, and the box of radius 2 ends before this cell. Queries 6 and 7: a 1 dominates five cells, and a
-// strip of period 5 has a code that dominates each cell once.
+// the two rules read. Queries 3 and 4: by `row` a 1 may have a 1 above it. Alternating columns of 1s and 0s have the periods 2
+// and 1; with the period 1 along a row, a 1 would be its own neighbour. Query 5: by `dies` a 1 has a 1 to its right, but no
+// second one after that, so there is no 1. To see this, the rule is needed at the 1 and at its right neighbour. At this
+// neighbour it reads the cell three to the right of the 1, and the box of radius 2 ends before this cell. Queries 6 and 7: a 1
+// dominates five cells, and a strip of period 5 has a code that dominates each cell once.
 const LINES: &str =
     "query 1 IN\nquery 2 YES 1\nquery 3 NO 2 1\nquery 4 NO right 2 1\nquery 5 YES 3\n\
     query 6 DENSITY 1/5\nquery 7 BOUND 1/5\n";

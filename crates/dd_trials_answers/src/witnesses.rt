@@ -73,8 +73,8 @@ const BOX_QUESTIONS: [(&str, &[(&str, bool)]); 4] = [
 
 // Shears, nodes that allow only some symbols, and membership.
 const OTHERS: [(&str, &[(&str, bool)]); 4] = [
-    // Each row is the row below it, shifted by the shear. With the period 3 a shift by 2 is the same as one by -1. So the cell up
-    // and to the right of the origin has another symbol than the origin.
+    // Each row is the row below it, shifted by the shear. With the period 3 a shift by 2 is the same as one by -1. So the cell
+    // up and to the right of the origin has a symbol other than the origin's.
     (
         "%alphabet 0 1 2 %rule three Ap[o1] (p~o -> p!=o) %rule diagonal o=o.rt.up %contains diagonal three",
         &[

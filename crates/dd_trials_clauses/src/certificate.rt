@@ -1,5 +1,5 @@
-// How an answer of each kind is written; outputs that are read back; and texts that are no outputs, each with the length of its
-// longest prefix that could begin an output, counted by hand.
+// How an answer of each kind is written; outputs that are read back; and texts that aren't outputs. For each of these
+// texts, the length of its longest prefix that could begin an output was counted by hand.
 use crate::samples::{SAMPLES, Sample, answer_of};
 use dd_certificate::{Answer, answer_line, write_answer};
 use dd_output::{CertificateFault, read_output, write_output};
@@ -107,7 +107,7 @@ fn refuses_cut_texts(rt: HostRuntime) -> Result<(), Fail> {
     Ok(())
 }
 
-/// The head of an output, the lines after the script, and the offset at which the text stops being the beginning of an output.
+/// The head of an output, the lines after the script, and the length of the text's longest prefix that could begin an output.
 const ALTERED: &[(&str, &str, u64)] = &[
     ("diddy 2\nscript 34\n", LINES, 6),
     ("diddy 1\nscript 35\n", LINES, 53),
@@ -164,8 +164,8 @@ fn refuses_altered_texts(rt: HostRuntime) -> Result<(), Fail> {
     Ok(())
 }
 
-/// Texts that follow the first 26 bytes of an output in place of an answer, and the offset in each text at which the whole stops
-/// being the beginning of an output.
+/// Texts that stand in place of an answer, after the first 26 bytes of an output. With each text comes the length of its
+/// longest prefix that an output could have there.
 const FAULTY: &[(&str, u32)] = &[
     ("NOR\n", 2),
     ("NONE\n", 5),

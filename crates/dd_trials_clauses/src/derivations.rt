@@ -79,7 +79,7 @@ fn check_twice(alloc: Global, clauses: &[i32], steps: &[i32]) -> Result<[bool; 2
     Ok([first, second])
 }
 
-/// Asserts that both checks of each list of steps, with the clauses of the gate, have this result.
+/// For each list of steps, asserts that both checks, with the clauses of the gate, have the result that is given with it.
 fn assert_checks(
     rt: &impl Abort,
     alloc: Global,

@@ -1,4 +1,5 @@
-// Rosters, which are lists of engines. The engines are propagators, walkers, and fake engines, each with its habit. Each roster
+// Rosters, which are lists of engines. An engine may propose an assignment that should satisfy a list of clauses, or steps that
+// should refute the list. Here the engines are propagators, walkers and fake engines. Each fake engine has a habit. Each roster
 // is asked twice about a list of clauses.
 ghost use Rattle.std.specs.Prelude.{false};
 
@@ -366,7 +367,7 @@ const CASES: &[(&[i32], &[Member], Left, Left)] = &[
     ),
 ];
 
-/// The two answers of a roster of these members that is asked twice about the clauses, each with the number of engines that are
+/// Asks a roster of these members twice about the clauses. Returns its two answers, each with the number of engines that are
 /// left after it.
 fn asked_twice(alloc: Global, cnf: &Cnf, members: &[Member]) -> Result<[Left; 2], AllocError> {
     let mut engines: Vec<Box<dyn Engine>> = Vec::new(alloc);

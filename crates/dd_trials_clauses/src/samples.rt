@@ -46,7 +46,7 @@ fn yes_both(alloc: Global) -> Result<Answer, AllocError> {
     })
 }
 
-/// A NO with a configuration of two cells in a row.
+/// A NO with a configuration of periods 2 and 1.
 fn no(alloc: Global, side: Side, shear: u64) -> Result<Answer, AllocError> {
     Ok(Answer::No {
         side,
@@ -92,7 +92,7 @@ fn bound(alloc: Global) -> Result<Answer, AllocError> {
     })
 }
 
-/// Patterns with stars, and one without symbols.
+/// Three patterns with stars, and one with neither symbols nor stars.
 fn minimal(alloc: Global) -> Result<Answer, AllocError> {
     let mut patterns = Items::new(alloc);
     patterns.push(starred(alloc, 0, &[Some(1), None, Some(1)])?)?;
@@ -141,7 +141,7 @@ fn least(alloc: Global) -> Result<Answer, AllocError> {
     })
 }
 
-/// The weight 0, which has no refutation.
+/// The weight 0. There is no refutation, since no weight is smaller.
 fn least_of_all(alloc: Global) -> Result<Answer, AllocError> {
     Ok(Answer::Least {
         weight: 0,
@@ -150,7 +150,7 @@ fn least_of_all(alloc: Global) -> Result<Answer, AllocError> {
     })
 }
 
-/// Names of the answers that are written. If a kind has several samples, the fields tell them apart.
+/// Names of the answers that are written. If a name stands for several samples, its fields tell them apart.
 pub(crate) enum Sample {
     Yes,
     YesBoth,

@@ -62,8 +62,8 @@ fn push_pigeonholes(numbers: &mut Vec<i32>, first: i32, holes: i32) -> Result<()
     Ok(())
 }
 
-/// The answer of three searches: one on the whole list, one without the variables that propagation fixes, and one without those
-/// that resolution eliminates. `different` if their answers differ.
+/// The common answer of three searches: one on the whole list, one without the variables that propagation fixes, and one
+/// without those that resolution eliminates. `different` if their answers differ.
 fn answer(alloc: Global, cnf: &Cnf) -> Result<&'static str, AllocError> {
     let whole = confirmed(alloc, cnf, solve(alloc, cnf)?)?;
     let propagated = confirmed(alloc, cnf, solve_propagated(alloc, cnf, Style::Broad)?)?;

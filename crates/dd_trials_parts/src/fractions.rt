@@ -28,8 +28,8 @@ enum Call {
     Div,
 }
 
-/// The numerator and the denominator of the result. `Over` divides the numerators of the operands. The other calls do what their
-/// names say.
+/// The numerator and the denominator of the result. `Over` divides the numerators of the operands. The other calls do what
+/// their names say.
 fn answer(call: Call, left: &Fraction, right: &Fraction) -> Option<(i128, i128)> {
     let result = match call {
         Call::Over => Fraction::new(left.num(), right.num()),

@@ -377,7 +377,7 @@ const CASES: &[(&str, u32, i64, &str, u32, &str)] = &[
         "Overflow",
     ),
     // The objective is column 0. So the line of the objective in the dictionary has the same numbers as the line of column 0,
-    // which comes first. In the next six cases no other line has a number that is too large.
+    // which is computed first. In the next six cases no line but these two has a number that is too large.
     (
         "first past 2^127: the product in the value, 9 * 2^124",
         2,

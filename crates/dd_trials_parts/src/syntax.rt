@@ -47,7 +47,7 @@ fn assert_first_faults(rt: &impl Abort, alloc: Global, faults: &[(&[u8], u32)]) 
     }
 }
 
-/// Bytes and words that may not stand before the first command, in a command or after one.
+/// Bytes and words that aren't allowed where they are: before the first command, in a command or after one.
 const FAULTS_OF_TEXT: [(&[u8], u32); 9] = [
     (b"x", 0),
     (b"%", 1),
@@ -79,7 +79,7 @@ const FAULTS_OF_HEADERS: [(&[u8], u32); 15] = [
     (b"%weights 1 2 %only 0 0", 2),
 ];
 
-/// Configurations and queries with wrong parts, and words that are no command.
+/// Configurations and queries with wrong parts, and words that aren't commands.
 const FAULTS_OF_COMMANDS: [(&[u8], u32); 13] = [
     (b"%conf c [-1] 0", 1),
     (b"%conf c [1]", 1),
@@ -96,7 +96,7 @@ const FAULTS_OF_COMMANDS: [(&[u8], u32); 13] = [
     (b"%%empty a", 1),
 ];
 
-/// Rules and automata in which a formula or a case is incomplete.
+/// Rules and automata in which a formula or a case isn't well formed.
 const FAULTS_OF_FORMULAS: [(&[u8], u32); 7] = [
     (b"%auto a when o=1 else 0", 1),
     (b"%auto a when o=1 give 0", 1),

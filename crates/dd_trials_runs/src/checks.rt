@@ -111,7 +111,7 @@ const NUMBERS: [(&str, &str, Status, &str); 11] = [
     ("6 3 4 2", "-6 3 4 2", Status::Refused, "refused at 87\n"),
 ];
 
-// Scripts of another length, texts that are no scripts, and scripts that ask something else.
+// Scripts of another length, texts that aren't scripts, and scripts that ask something else.
 const SCRIPTS: [(&str, &str, Status, &str); 9] = [
     ("script 34", "script 33", Status::Refused, "refused at 52\n"),
     ("script 34", "script 35", Status::Refused, "refused at 53\n"),
@@ -172,8 +172,8 @@ const STEPS: [(&str, &str, Status, &str); 13] = [
         Status::Definite,
         "query 1 accepted\nchecked 1\n",
     ),
-    // One hint too few, hints in an order in which the first clause isn't a unit, a last hint to a clause that is already true,
-    // and a hint after the conflict.
+    // Two rows with one hint too few. Then hints in an order in which the first clause isn't a unit, a last hint that names a
+    // clause that is already true, and a hint after the conflict.
     ("6 3 4 2", "6 4 2", Status::Rejected, "query 1 rejected\n"),
     ("6 3 4 2", "6 3 4", Status::Rejected, "query 1 rejected\n"),
     ("6 3 4 2", "3 4 2 6", Status::Rejected, "query 1 rejected\n"),

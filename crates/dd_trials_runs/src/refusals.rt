@@ -16,7 +16,7 @@ fn assert_refused(rt: &impl Abort, alloc: Global, rows: &[(&[u8], &str)]) -> Res
     Ok(())
 }
 
-// Texts that are no scripts because of their bytes, their tokens or their commands.
+// Texts that aren't scripts because of their bytes, their tokens or their commands.
 const NOT_WELL_FORMED: [(&[u8], &str); 17] = [
     (b"x", "0 syntax"),
     (b"%", "1 syntax"),

@@ -18,7 +18,7 @@ const FICKLE: Member = Member::Fake(Habit::ChangesItsMind);
 
 const BY_TURNS: Member = Member::Fake(Habit::ByTurns);
 
-// The first box that is tried suffices: no filling of it both obeys the premise and has the goal. So the answer is YES.
+// The first box that is tried suffices: no symbols in it both obey `hard` and break `row` at the origin. So the answer is YES.
 const YES: &str = "%rule hard o=1 -> (o.rt=0 & o.up=0) %rule row o=1 -> o.rt=0 %contains row hard";
 
 // No box suffices. After the boxes, tori are tried, until one has a configuration that shows the answer NO.
@@ -101,8 +101,8 @@ fn an_engine_runs_out_of_memory(rt: HostRuntime) -> Result<(), Fail> {
 
 // Each row is about the box of one radius, from 0 to 4. It has the numbers of variables and clauses in the box's list of clauses,
 // and how many engines are left. The engine gives a wrong refutation of a list of this size, and proposes nothing for any other
-// list. So it is found wrong exactly if it is asked about the list of this box. The search asks about the radii 0 to 3, and the
-// engine is given the lists of these boxes as they are.
+// list. So it is found wrong exactly when it is asked about the list of this box. The search asks about the radii 0 to 3, and
+// the engine is given the lists of these boxes as they are.
 #[test]
 fn engines_are_asked_for_the_boxes_themselves(rt: HostRuntime) -> Result<(), Fail> {
     let alloc = rt.alloc();
@@ -118,8 +118,9 @@ fn engines_are_asked_for_the_boxes_themselves(rt: HostRuntime) -> Result<(), Fai
     Ok(())
 }
 
-// Each row has a script, an engine, how many bytes the sink can hold, and which of its writes fails, or 0 if none does. The first
-// engine would be dropped at its first call, and the second engine at its second. But the sink fails before this call is made.
+// Each row has a script, an engine, how many bytes the sink can hold, and which of its writes fails, or 0 if none does. The
+// engine of the first row would be dropped at its first call, and that of the second row at its second. But in both rows the
+// sink fails before this call is made.
 #[test]
 fn no_engine_is_asked_before_the_earlier_lines_are_written(rt: HostRuntime) -> Result<(), Fail> {
     let alloc = rt.alloc();
@@ -139,7 +140,7 @@ fn no_engine_is_asked_before_the_earlier_lines_are_written(rt: HostRuntime) -> R
     Ok(())
 }
 
-// No engine is asked if the words are no command, or if the input is refused.
+// No engine is asked if the words aren't a command, or if the input is refused.
 #[test]
 fn no_engine_is_asked_without_a_run(rt: HostRuntime) -> Result<(), Fail> {
     let alloc = rt.alloc();

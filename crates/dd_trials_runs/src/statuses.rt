@@ -36,8 +36,8 @@ type Session = (&'static str, &'static str, Status, &'static str);
 
 // At most sixteen bytes are read or written at a time. Each row has a session, the number of its reads, and a list. The last read
 // finds the end of the input. The list has a number for each write: how many bytes the sink holds if this write fails. A run
-// writes the lines before the first answer together, and then each answer separately. A check and a sample write each line
-// separately. A sample reads nothing.
+// writes the lines before the first answer together, then each answer separately, and then the line `end`. A check and a sample
+// write each line separately. A sample reads nothing.
 const SESSIONS: [(Session, u64, &[usize]); 7] = [
     (
         (
@@ -222,7 +222,7 @@ fn each_fault_has_its_status(rt: HostRuntime) -> Result<(), Fail> {
     Ok(())
 }
 
-// If the words are no command, nothing is read and nothing is written.
+// If the words aren't a command, nothing is read and nothing is written.
 #[test]
 fn other_words_do_nothing(rt: HostRuntime) -> Result<(), Fail> {
     let alloc = rt.alloc();

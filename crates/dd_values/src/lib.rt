@@ -1,4 +1,4 @@
-//! Data that all crates use: a list and a heap box, of which contracts see only the contents, and limits that several crates
+//! Data that most crates use: a list and a heap box, of which contracts see only the contents, and limits that several crates
 //! share.
 #![tactic(auto)]
 

@@ -20,7 +20,7 @@ abbrev pub ListedBreak : Type 0
 ListedBreak = (x : LocalRule) (patterns : List Listed) (a : ℕ) (ss : List ℕ) → IsForbiddenList x patterns → a < x.nodes →
     Contains patterns (listed a ss) ↔ IsBreaking x a ss
 
--- ---- the index of a cell in a list of cells
+-- ---- the index of a cell in a list of cells, or the list's length if the cell isn't in it
 
 cell_total : IsTotalOrder cell_cmp
 cell_total = search (comparing, rules) depth 9

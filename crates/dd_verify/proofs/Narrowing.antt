@@ -3,7 +3,7 @@ use Rattle.std.proofs.Common.{◌≡◌, ℕ, ◌<◌, ◌≤◌, List, length, 
 use Rattle.std.proofs.lemmas.List.{take_all, Elements.All-from_get_or}
 use Rattle.std.specs.List.{All}
 
--- the list consists of the first i symbols, each below the size
+-- the list consists of the first i symbols, each below `size`
 pub record IsNarrowed (symbols : List ℕ) (size i : ℕ) (list : List ℕ) : Type 0 where
   pub read : list ≡ take i symbols
   pub below : (k : ℕ) → k < i → get_or symbols k 0 < size

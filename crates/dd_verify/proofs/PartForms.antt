@@ -18,7 +18,7 @@ use Rattle.dd_certificate.specs.declared.answer.Reason.TheVariants as reason
 use Rattle.dd_certificate.specs.declared.answer.Answer.TheVariants as answer
 use Rattle.dd_certificate.specs.declared.answer.Side.TheVariants as side
 
--- ---- the questions by their index
+-- ---- the questions by their numbers, from 1 to 4
 
 no_more : (c : ConjugacyOf) (k : ℕ) (x : LocalRule) (g : GoalOf) → slice_get (parts c) (suc (suc (suc (suc (suc k)))) - 1) ≡ Some (x, g) → ⊥
 no_more c k x g is =
@@ -26,7 +26,7 @@ no_more c k x g is =
     let none : slice_get (parts c) (suc (suc (suc (suc k)))) ≡ None = refl in
     cc (sym none ∙ (sym (ap (slice_get (parts c)) at) ∙ is))
 
--- what holds of each question holds of the one with the index k
+-- what holds of each question holds of the one with the number k
 pub of_part : (P : LocalRule → GoalOf → Type 0) (c : ConjugacyOf) (k : ℕ) (x : LocalRule) (g : GoalOf) → EachPart P c → IsPart c k x g → P x g
 of_part P c zero x g each is = absurd (omega (arith, is.0))
 of_part P c (suc zero) x g each is = let same : (c.from, c.image) ≡ (x, g) = cc is.1 in subst (λ (p : LocalRule × GoalOf). P p.0 p.1) same each.image
@@ -50,7 +50,7 @@ module _ (l : Limits) (c : ConjugacyOf) (limits : AreLimits l) (sound : EachPart
   pub broken_fits : IsNo l x g along shear symbols → IsWritable (answer.Broken k along shear symbols)
   broken_fits no_of = ((is.0, part_within c k x g is), no_writable l x g along shear symbols limits (of_part (IsSoundBox l) c k x g sound is).0 no_of side.Whole)
 
-  -- the answer is a NO to the question with the index k
+  -- the answer is a NO to the question with the number k
   pub no_taken : BrokenAt l c k along shear symbols → IsNo l x g along shear symbols
   no_taken told =
       let same : (told.0, told.1) ≡ (x, g) = cc (told.2.1, is.1) in
@@ -121,7 +121,7 @@ module _ (l : Limits) (c : ConjugacyOf) (limits : AreLimits l) (sound : EachPart
     λ both. last.1 (each_of both.1).round_back,
   )
 
--- if a test that every certificate passes fails, there is no certificate
+-- if every certificate passes a test, and the test fails, there is no certificate
 pub lacking : (b : Bool) (P W C : Type 0) → (b ≡ true) ↔ P → b ≡ false → (C → P) → (false ≡ true) ↔ (W × C)
 lacking b P W C told fails taken = nothing_holds (W × C) (λ both. false≢true (sym fails ∙ told.1 (taken both.1)))
 

@@ -1,5 +1,5 @@
--- Answers about the least weight on a torus: their configurations, the size of their clauses, that an output can hold them, and
--- what they claim.
+-- Answers about the least weight on a torus: their configurations, how many clauses their steps refute, that an output can hold
+-- them, and what they claim.
 use Rattle.std.proofs.Common.{◌≡◌, ◌≢◌, ℕ, suc, ◌*◌, ◌<◌, ◌≤◌, Bool, true, List, [], ◌∷◌, length, inl, inr, refl, ap, sym, subst, ◌∙◌, arith}
 use Rattle.std.proofs.lemmas.Nat.{mul-le}
 use Rattle.std.specs.{Prelude.◌↔◌, List.All}
@@ -42,7 +42,7 @@ torus_small x along symbols torus is =
 pub on_torus_of : {x : LocalRule} {along ws : List ℕ} {w : ℕ} {symbols : List ℕ} → HasWeight x along ws w symbols → IsOnTorus x along symbols
 on_torus_of told = (told.lives.tile, told.lives.fits)
 
--- a test of the configuration decides whether its symbols have the weight w
+-- a test of the configuration decides whether it lives in the rule's subshift and weighs w
 pub weight_decides : (x : LocalRule) (along ws : List ℕ) (w : ℕ) (symbols : List ℕ) (t : Tile) (b : Bool) → t ≡ torus_tile x along symbols →
     (b ≡ true) ↔ (IsWitness x always t × (total_weight ws t.symbols ≡ w)) → (b ≡ true) ↔ HasWeight x along ws w symbols
 weight_decides x along ws w symbols t b is told = (

@@ -1,4 +1,5 @@
--- A lower bound on what admissible fillings weigh on a box also holds for each configuration that obeys the rule.
+-- A lower bound on what admissible fillings weigh on a box also holds for each configuration that obeys the rule. The grown box consists of all
+-- positions within reach of the box.
 use Rattle.std.proofs.Common.{◌≡◌, ◌<◌, ◌≤◌, ◌+◌, ◌*◌, ◌^◌, ℕ, Bool, true, false, List, length, refl, ap, ◌∙◌, arith, None}
 use Rattle.std.proofs.lemmas.Bool.{and_parts, and_from, cond_both, lt-ltb, ltb-true}
 use Rattle.std.proofs.{lemmas.Bool.Decides.Decides-int_eq, lemmas.Int.ints, Math.Nat.mul-le-mul}

@@ -16,16 +16,19 @@ use Rattle.dd_certificate.specs.declared.answer.{Reason.Reason, Answer.Answer}
 use Rattle.dd_certificate.specs.declared.answer.Reason.TheVariants as reason
 use Rattle.dd_certificate.specs.declared.answer.Answer.TheVariants as answer
 
--- Least densities. A certificate has a closed walk through the strip's transfer graph, and potentials which show that no closed walk has a smaller
--- mean weight. Or it has ranks which show that there is no closed walk, and so no configuration on the strip.
+-- Least densities. A strip has periods along y and z, listed by `strip`, and no end along x. A slice of it lies at one value of x. A state of
+-- the strip's transfer graph consists of consecutive slices, and has an edge for each slice that may follow it. `ws` lists the weights of the
+-- symbols. A certificate has a closed walk through this graph, and potentials (a number for each state) which show that no closed walk has a smaller
+-- mean weight. Or it has ranks (a number for each state, which falls along each edge). They show that there is no closed walk, and so no
+-- configuration on the strip.
 pub data IsStripCertificate (x : LocalRule) (strip ws : List ℕ) : Answer → Type 0 where
   strip_least : {p q : ℕ} {cycle : List ℕ} {potentials : List ℤ} → IsDensityCertificate x (strip_for x strip) ws p q cycle potentials →
       IsStripCertificate x strip ws (answer.Density p q cycle potentials)
   strip_empty : {ranks : List ℕ} → IsEmptyCertificate x (strip_for x strip) ranks → IsStripCertificate x strip ws (answer.Empty ranks)
 
 -- p / q is the least density of the configurations that live on the strip. m / l is the mean weight of the cycle, in lowest
--- terms. Take an admissible filling of as many slices as a state has, and of j more. Then l times the weight of the last j
--- slices is at least m * j, less the spread of the potentials (the greatest less the least).
+-- terms. Let k be the number of slices in a state. In an admissible filling of k + j slices, l times the weight of the last j
+-- slices is at least m * j - s, where s is the spread of the potentials (the greatest less the least).
 pub record IsLeastOnStrip (x : LocalRule) (strip ws : List ℕ) (p q : ℕ) (cycle : List ℕ) (potentials : List ℤ) : Type 0 where
   pub m : ℕ
   pub l : ℕ
@@ -37,8 +40,9 @@ pub data StripClaim (x : LocalRule) (strip ws : List ℕ) : Answer → Type 0 wh
   claims_least : {p q : ℕ} {cycle : List ℕ} {potentials : List ℤ} → IsLeastOnStrip x strip ws p q cycle potentials → StripClaim x strip ws (answer.Density p q cycle potentials)
   claims_empty : {ranks : List ℕ} → StripEmpty x (strip_for x strip) (greatest ranks + state_length x) → StripClaim x strip ws (answer.Empty ranks)
 
--- Discharging. A certificate has amounts with which each position holds at least the bound, and duals which show that no amounts
--- do better. Or it is UNKNOWN, with a reason why no bound was found.
+-- Discharging. Each position first holds a weight, and then gives amounts along the vectors `vs`. A certificate has amounts with
+-- which each position then holds at least the bound, and duals (factors of the rows of a linear program) which show that no
+-- amounts do better. Or it is UNKNOWN, with a reason why no bound was found.
 pub data IsDischargeCertificate (x : LocalRule) (radius margin : ℕ) (vs : List Place) (ws : List ℕ) : Answer → Type 0 where
   best : {p q n : ℕ} {amounts duals : List ℕ} → IsBoundCertificate x ws radius margin vs (bound_claimed p q n amounts duals) →
       IsDischargeCertificate x radius margin vs ws (answer.Bound p q n amounts duals)
@@ -46,9 +50,9 @@ pub data IsDischargeCertificate (x : LocalRule) (radius margin : ℕ) (vs : List
   overflow : IsDischargeCertificate x radius margin vs ws (answer.Unknown reason.Overflow)
   no_pivots : IsDischargeCertificate x radius margin vs ws (answer.Unknown reason.Pivots)
 
--- What a bound p / q claims. No amounts that meet the program's rows give a greater bound. Now move Side(n), the box of side n, to any position of
--- Z^d, and take an admissible filling of all positions within reach of the moved box. On the moved box, this filling weighs at least n^d times p / q,
--- less what the box may receive from outside. So does each configuration that obeys the rule.
+-- What a bound p / q claims. No amounts that meet the rows of the linear program give a greater bound. Now move Side(n), the box of side n, to any
+-- position of Z^d, and take an admissible filling of all positions within reach of the moved box. On the moved box, this filling weighs at least n^d
+-- times p / q, less what the box may receive from outside. So does each configuration that obeys the rule.
 pub record IsBestBound (x : LocalRule) (ws : List ℕ) (radius margin : ℕ) (vs : List Place) (b : Bound) : Type 0 where
   pub best : BestOf x ws radius margin vs b.numerator b.denominator
   pub sides : HoldsOnSides x ws radius margin vs b

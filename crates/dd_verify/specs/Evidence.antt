@@ -1,4 +1,4 @@
--- Which answers are certificates for a box question, or for a question that is several box questions.
+-- Which answers are certificates for a box question, or for a question that comes down to several box questions.
 use Rattle.std.specs.Prelude.{ℕ, ◌≡◌, ◌≤◌, max, List, [], ◌∷◌, length}
 use Rattle.dd_pattern.specs.Periods.{AreWithin}
 use Rattle.dd_formula.specs.LocalRule.{LocalRule}
@@ -45,8 +45,8 @@ pub data IsEqualCertificate (l : Limits) (x y : LocalRule) : Answer → Type 0 w
   right_no : {along : List ℕ} {shear : ℕ} {symbols : List ℕ} → IsNo l y (breaks x) along shear symbols → IsEqualCertificate l x y (answer.No side.Right along shear symbols)
   equal_unknown : IsEqualCertificate l x y (answer.Unknown reason.Limits)
 
--- A certificate for a conjugacy is one of three answers: CONJUGATE with a YES to each of the four box questions; BROKEN with the
--- number of one of these questions and a NO to it; or UNKNOWN with the limits as the reason.
+-- A conjugacy is the four box questions of `ConjugacyOf`. A certificate is one of three answers: CONJUGATE with a YES to each of
+-- these questions; BROKEN with the number of one of them and a NO to it; or UNKNOWN with the limits as the reason.
 pub data IsConjugacyCertificate (l : Limits) (c : ConjugacyOf) : Answer → Type 0 where
   conjugate : {n1 n2 n3 n4 : ℕ} {s1 s2 s3 s4 : List Step} → IsYes l c.from c.image n1 s1 → IsYes l c.to c.image_back n2 s2 → IsYes l c.from c.round n3 s3 →
       IsYes l c.to c.round_back n4 s4 → IsConjugacyCertificate l c (answer.Conjugate (n1 ∷ n2 ∷ n3 ∷ n4 ∷ []) (s1 ∷ s2 ∷ s3 ∷ s4 ∷ []))

@@ -54,7 +54,7 @@ pub data ConjugacyClaim (c : ConjugacyOf) : Answer → Type 0 where
 abbrev pub AreReadAt : LocalRule → Look → Place → ℕ → List ℕ → Type 0
 AreReadAt x look v a ss = map (λ c. look (shifted v c)) (cells_at x a) ≡ map Some ss
 
--- Take any position v and any node. If the cells that the rule reads there have allowed symbols, the rule is false there exactly if these symbols
+-- Take any position v and any node. If the cells that the rule reads there have allowed symbols, the rule is false there exactly when these symbols
 -- are a listed pattern.
 abbrev pub TellsBreaking : LocalRule → List Listed → Type 0
 TellsBreaking x patterns = (look : Look) (v : Place) (a : ℕ) (ss : List ℕ) → a < x.nodes → AreReadAt x look v a ss →
@@ -64,7 +64,7 @@ TellsBreaking x patterns = (look : Look) (v : Place) (a : ℕ) (ss : List ℕ) �
 pub data ListClaim (x : LocalRule) : Answer → Type 0 where
   says_list : {patterns : List Listed} → TellsBreaking x patterns → ListClaim x (answer.List patterns)
 
--- Take the node a of any position v. If the cells that the rule reads there have allowed symbols, the rule is false there exactly if these symbols
+-- Take the node a of any position v. If the cells that the rule reads there have allowed symbols, the rule is false there exactly when these symbols
 -- agree with one of the patterns ps.
 abbrev pub TellsCovered : LocalRule → ℕ → List (List (Option ℕ)) → Type 0
 TellsCovered x a ps = (look : Look) (v : Place) (ss : List ℕ) → AreReadAt x look v a ss → are_allowed x (cells_at x a) ss ≡ true →

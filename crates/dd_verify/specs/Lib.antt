@@ -1,8 +1,8 @@
 -- which answers to questions are certificates, and what they claim
 pub mod Certificates
 -- Which answers are certificates for a box question, or for a question that comes down to several. A box question has a rule, the premise, and a
--- goal: a property of a position, such as that another rule is broken there. It asks whether the goal holds nowhere in any configuration that obeys
--- the premise.
+-- goal: a property of a position, such as that another rule is broken there. It asks whether no configuration that obeys the premise has the goal at
+-- any position.
 pub mod Evidence
 -- what answers claim, for each kind of question that is not about weights
 pub mod Holding

@@ -73,7 +73,7 @@ fn is_broken(rule: &Rule, periodic: &Periodic) -> bool
 }
 
 /// Whether the configuration is a witness that the rule `goal` doesn't follow from the premise: its symbols are allowed, it lives
-/// in the premise's subshift, and `goal` is false at some node of the origin. This test takes no memory.
+/// in the premise's subshift, and `goal` is false at some node of the origin. This test allocates no memory.
 pub fn check_periodic(premise: &Rule, goal: &Rule, periodic: &Periodic) -> bool
     requires fits { Fits premise.now periodic.now }
     requires alike { AreAlike premise.now goal.now }

@@ -72,8 +72,8 @@ pub fn claims_hold(question: &CheckedQuestion)
     }
 }
 
-/// Does nothing. Its contract says the same as that of `claims_hold`, for every sound question about a box or a conjugacy whose
-/// goals have the facts of `HaveGoalFacts`. The function itself takes no question and no goals.
+/// Does nothing. Its contract says the same as that of `claims_hold`, for every sound box question and every sound conjugacy
+/// for which `HaveGoalFacts` holds. The function itself takes no question and no goals.
 pub fn claims_hold_for_goals()
     ensures { (l : AnyLimits) (k : Asked) (answer : AnyAnswer) → IsSoundAsked l k → HaveGoalFacts k → IsCertificateOf l k answer → ClaimOf k answer }
 {}

@@ -77,8 +77,8 @@ begins_sound Join.Implies (Lexeme.Mark Mark.Arrow ∷ tokens) e = refl
 begins_sound Join.Iff (Lexeme.Mark Mark.BothWays ∷ tokens) e = refl
 begins_sound j tokens e = absurd cc
 
--- The tokens are the text of such parts, followed by the rest. Each part may stand at this place. If the sign comes next and n isn't 0, there is at
--- least one part.
+-- The tokens are the parts as `more_text` writes them, followed by the rest. Each part may stand at this place. If the tokens begin with the sign and
+-- n isn't 0, there is at least one part.
 abbrev TakesMore : Join → ℕ → ℕ → List Lexeme → List Formula × List Lexeme → Type 0
 TakesMore j place n tokens x = (tokens ≡ more_text j x.0 ++ x.1) × (list_all (λ (h : ℕ → Bool). h place) (map stands x.0) ≡ true) × (begins j tokens ≡ true → 0 < n → 0 < length x.0)
 

@@ -1,4 +1,5 @@
-//! The depth of a formula, capped at 65, which is one over the limit.
+//! The depth of a formula, capped at 65, which is one over the limit. An atom has depth 0. Each `!`, quantifier, pair of
+//! parentheses and sign is one deeper than its deepest part.
 ghost use Rattle.std.specs.Prelude.{◌≡◌, ◌<◌, ◌+◌, length, map};
 ghost use Rattle.dd_written.specs.Formulas.{tree_depth, signs_over, chain_depth, cut_depth};
 

@@ -67,7 +67,8 @@ pub enum Quantifier {
     Exists,
 }
 
-/// The sign between the parts of a chain. The signs are listed in order: the first binds tightest, the last binds loosest.
+/// The sign between the parts of a chain, as in `f & g & h`. The signs are listed in order: the first binds tightest, the last
+/// binds loosest.
 #[derive(Clone, Copy, Debug, PartialEq, Eq)]
 pub enum Join {
     /// `&`

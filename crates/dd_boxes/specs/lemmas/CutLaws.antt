@@ -53,7 +53,7 @@ wider_cells d nodes n m c le h =
 pub wider_box : (x : LocalRule) (n m : ℕ) (c : Cell) → n ≤ m → is_box_cell x n c ≡ true → is_box_cell x m c ≡ true
 wider_box x n m c le h = wider_cells x.dimension x.nodes n m c le h
 
--- the cut: the part of a filling in the box of radius n round v, by cells relative to v
+-- the cut: the part of a filling in the box of radius n round v; its cells are given relative to v
 abbrev pub cut : LocalRule → ℕ → Look → Place → Look
 cut x n look v c = cond (is_box_cell x n c) (look (shifted v c)) None
 

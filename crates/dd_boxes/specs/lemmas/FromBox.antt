@@ -1,5 +1,5 @@
--- If no admissible filling of one box has the goal at the origin, the goal holds nowhere. The proof takes a filling with the goal at v, and cuts out
--- the box round v.
+-- If a box contains what the goal reads, and no admissible filling of it has the goal at the origin, the goal holds nowhere. The proof takes a
+-- filling with the goal at v, and cuts out the box round v.
 use Rattle.std.proofs.Common.{◌≡◌, ℕ, ◌<◌, ◌≤◌, Bool, true, false, List, length, refl, ap, sym, ◌∙◌}
 use Rattle.std.proofs.lemmas.{Bool.and_parts, Bool.lt-ltb, Bool.ltb-true, Option.slice_get-get_or}
 use Rattle.std.specs.{Prelude.◌&&◌, Prelude.◌||◌, Prelude.is_some, Prelude.nat_lt, Prelude.slice_get, List.list_all}

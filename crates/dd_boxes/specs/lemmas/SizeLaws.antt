@@ -1,5 +1,5 @@
--- A question that has at most `most_clauses` clauses on its largest region has at most so many on each region with at most as
--- many positions, such as each smaller box.
+-- If a question has at most `most_clauses` clauses on its largest region, it has at most that many on each region with no more
+-- positions, such as each smaller box.
 use Rattle.std.proofs.Common.{◌≡◌, ℕ, zero, suc, ◌+◌, ◌*◌, ◌^◌, ◌≤◌, ap, ◌∙◌, arith, pos}
 use Rattle.std.proofs.{Math.Nat.pow-zero, Math.Nat.pow-suc, lemmas.Int.ints, lemmas.Nat.mul-le}
 use Rattle.std.specs.Prelude.{◌-ℤ◌}

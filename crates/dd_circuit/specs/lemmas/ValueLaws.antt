@@ -98,8 +98,8 @@ pub values_done : (circuit : Network) (inputs values : List Bool) (gs : List Gat
 values_done circuit inputs values gs i e ok same all is =
     are_values circuit inputs values e (rw same at ok) (is ∙ ap (values_from inputs) (take_all i gs all ∙ same))
 
--- the converse: if a list starts with the values vs, has one more value for each gate, and gives each gate's variable the gate's
--- value, then it is `values_from`
+-- if a list starts with the values vs, has one more value for each gate, and gives each gate's variable the gate's value, then it
+-- is `values_from`
 unique : (gs : List Gate) (vs ws : List Bool) (n : ℕ) → length ws ≡ n + length gs → AreGates n gs → take n ws ≡ vs →
     agrees (true_variables ws) n gs ≡ true → ws ≡ values_from vs gs
 unique [] vs ws n e ok begins said = sym (take_all n ws (omega (arith, e))) ∙ begins

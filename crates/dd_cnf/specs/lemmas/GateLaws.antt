@@ -1,4 +1,4 @@
--- The clauses of gates are satisfied exactly if the gates' variables have the gates' values.
+-- The clauses of gates are satisfied exactly when the gates' variables have the gates' values.
 use Rattle.std.proofs.Common.{◌≡◌, ℕ, suc, Bool, true, false, List, [], ◌∷◌, map, refl, ◌∙◌, ◌++◌, arith, sym, ◌+◌, length, append_assoc}
 use Rattle.std.proofs.lemmas.List.Folds.{list_all-append}
 use Rattle.std.specs.{Prelude.not, Prelude.if◌then◌else◌, Prelude.◌||◌, Prelude.◌&&◌, Prelude.◌-◌, List.list_all, List.list_any, Bool.beq}
@@ -62,7 +62,7 @@ pairs_law set gate sign (l ∷ ls) =
     rw (is_true_under-negation set gate, pairs_law set gate sign ls)
     (pair_clause (is_true_under set gate) (is_true_under set (signed sign l)) (list_all (λ m. is_true_under set (signed sign m)) ls))
 
--- The last clause has a true literal other than the gate's exactly if not all signed members are true.
+-- The last clause has a true literal other than the gate's exactly when not all signed members are true.
 last_law : (set : ℕ → Bool) (sign : Bool) (members : List Signal) →
     list_any (is_true_under set) (map (signed (not sign)) members) ≡ not (list_all (λ l. is_true_under set (signed sign l)) members)
 last_law set sign [] = refl
@@ -79,7 +79,7 @@ and_or_law set gate members =
 iff_law : (set : ℕ → Bool) (g a b : Literal) → is_satisfied set (iff_clauses g a b) ≡ beq (is_true_under set g) (beq (is_true_under set a) (is_true_under set b))
 iff_law set g a b = rw (is_true_under-negation set g, is_true_under-negation set a, is_true_under-negation set b) (iff_cases (is_true_under set g) (is_true_under set a) (is_true_under set b))
 
--- all members are false exactly if none is true
+-- all members are false exactly when none is true
 all_opposing : (set : ℕ → Bool) (members : List Signal) → list_all (λ l. is_true_under set (signed false l)) members ≡ not (list_any (signal_value set) members)
 all_opposing set [] = refl
 all_opposing set (l ∷ ls) =
@@ -88,14 +88,14 @@ all_opposing set (l ∷ ls) =
       go true b = refl
       go false b = refl
 
--- the clauses of a gate are satisfied exactly if its variable has the gate's value
+-- the clauses of a gate are satisfied exactly when its variable has the gate's value
 pub gate_law : (set : ℕ → Bool) (g : ℕ) (gate : Gate) → is_satisfied set (gate_clauses g gate) ≡ beq (set g) (gate_value set gate)
 gate_law set g (And members) = and_or_law set (literal g true) members
 gate_law set g (Or members) =
     and_or_law set (literal g false) members ∙ rw (all_opposing set members) (beq-not (set g) (list_any (signal_value set) members))
 gate_law set g (Iff a b) = iff_law set (literal g true) (literal_of a) (literal_of b)
 
--- the clauses of several gates are satisfied exactly if each gate's variable has the gate's value
+-- the clauses of several gates are satisfied exactly when each gate's variable has the gate's value
 pub gates_law : (set : ℕ → Bool) (n : ℕ) (gs : List Gate) → is_satisfied set (gates_clauses n gs) ≡ agrees set n gs
 gates_law set n [] = refl
 gates_law set n (g ∷ gs) =

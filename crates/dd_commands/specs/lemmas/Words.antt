@@ -32,7 +32,7 @@ pub wanted_reads : (bytes spelt : List ℕ) → Reads (wanted bytes spelt)
 wanted_reads bytes spelt =
     such_reads (λ w. word_text bytes w ≡ spelt) (λ w. bytes_eq (word_text bytes w) spelt) (λ w. (bytes_eq-Decides (word_text bytes w) spelt).0) (λ w. (bytes_eq-Decides (word_text bytes w) spelt).1) word_reads
 
--- to look up a first word, search the commands that aren't queries first, and then the queries
+-- a first word is looked up among the commands that aren't queries, and then among the queries
 either_of : (written : List ℕ) (hs : List Head) (ks : List QueryKind) → one_of head_text (hs ++ map Head.Query ks) written ≡ option_or (one_of head_text hs written) (option_map Head.Query (one_of kind_word ks written))
 either_of written [] [] = refl
 either_of written [] (k ∷ ks) = grind (arith, common_steps, either_of written [] ks)

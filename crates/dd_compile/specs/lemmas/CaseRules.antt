@@ -25,7 +25,7 @@ use Rattle.dd_compile.specs.lemmas.{Progress.size-append, Progress.Extends-trans
 use Rattle.dd_compile.specs.lemmas.ChoiceLaws.{pick, picked, chosen_says, gates_say, fresh_length, fresh_in_range, choices_length}
 use Rattle.dd_compile.specs.lemmas.CaseGates.{itself, next_is, taken_is}
 
--- if all gates of a circuit have their values, so do the first of them
+-- if all gates of a circuit have their values, so do the gates of each circuit that it extends
 pub agrees_before : (now new : Network) (set : ℕ → Bool) → Extends now new → agrees set new.inputs new.gates ≡ true → agrees set now.inputs now.gates ≡ true
 agrees_before now new set more ok =
     let whole : agrees set now.inputs (now.gates ++ more.added) ≡ true = sym (ap (λ n. agrees set n new.gates) more.inputs ∙ ap (agrees set now.inputs) more.gates) ∙ ok in

@@ -87,7 +87,7 @@ progress_end w parts i start now signals p past =
       ),
     )
 
--- the added gates and the signal are those of the definition
+-- unless memory ran out, the added gates are those of m, and the returned signal is m's
 abbrev Ends : Network → Network → Made → Result Signal AllocError → Type 0
 Ends old new m r = IfOk r (λ s. new.gates ≡ old.gates ++ m.gates) × IfOk r (λ s. s ≡ m.signal)
 

@@ -42,7 +42,7 @@ signals_at_place w ok k d h =
 pub read_by_place : (w : Wiring) → IsWiring w → IsWiredByPlace w
 read_by_place w ok = record { at = reads_at_place w ok; elsewhere = missing_reads_none_too w ok }
 
--- the place that a search for a cell finds holds the list of the cell's signals
+-- if a search for a cell finds a place, the list at this place is that of the cell's signals
 pub found_list : (w : Wiring) (cs : List Cell) (c : Cell) (i : ℕ) (ss : List Signal) → IsWiring w → cs ≡ w.cells → IsSearchInRange (Ok i) (length cs) →
     IsBinarySearchResult (λ y. cell_cmp y c) cs (Ok i) → ss ≡ get_or w.signals i ss → signals_of w c ≡ Some ss
 found_list w cs c i ss ok same within h here =

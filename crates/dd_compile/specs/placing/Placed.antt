@@ -20,7 +20,7 @@ is_there w v d = is_in_range (moved d.position v) && is_some (signals_of w (shif
 abbrev pub signals_there : Wiring → Place → List Cell → List Signal
 signals_there w v cs = flat_map (λ d. all_of (signals_of w (shifted v d))) cs
 
--- the signal if the truth value is true, or its opposite if not
+-- the signal, or the signal's opposite if the truth value is false
 abbrev pub signed : Bool → Signal → Signal
 signed positive s = if positive then s else opposite s
 

@@ -49,7 +49,7 @@ weight_most ws (s ∷ ss) =
     let more = weight_most ws ss in
     omega (arith, e, one, more)
 
--- a smaller bound on the weight has no greater `weight_count`
+-- with a smaller bound on the weight, `weight_count` is no greater
 pub count_less : (x : LocalRule) (p : Periods) (ws : List ℕ) (below more most : ℕ) → below ≤ more → weight_count x p ws more ≤ most → weight_count x p ws below ≤ most
 count_less x p ws below more most h room =
     let cells = periods_volume p * x.nodes in

@@ -13,7 +13,7 @@ pub any_append : {X : Type 0} (p : X → Bool) (xs ys : List X) → list_any p (
 any_append p [] ys = refl
 any_append p (x ∷ xs) ys = rw (any_append p xs ys) (sym (or_assoc (p x) (list_any p xs) (list_any p ys)))
 
--- if each making has a true signal exactly if its test passes, some signal of the joined makings is true exactly if some test passes
+-- if each making has a true signal exactly when its test passes, some signal of the joined makings is true exactly when some test passes
 pub any_joined : (set : ℕ → Bool) (make : ℕ → Making) (test : ℕ → Bool) →
     ((s n : ℕ) → agrees set n (make s n).gates ≡ true → list_any (signal_value set) (make s n).signals ≡ test s) →
     (c a n : ℕ) → agrees set n (joined (map make (range_with_len a c)) n).gates ≡ true →

@@ -1,4 +1,4 @@
--- What refuted clauses say about the weights of the configurations that live.
+-- What refuted clauses say about the weights of the living configurations.
 use Rattle.std.proofs.Common.{◌≡◌, ℕ, zero, suc, ◌<◌, ◌≤◌, List, length, arith, inl, inr}
 use Rattle.std.proofs.lemmas.Bool.{cases_lt}
 use Rattle.dd_derivation.specs.{declared.step.Step.Step, Derivations.IsRefuting, lemmas.Soundness.refutes_sound}
@@ -13,7 +13,7 @@ light_below : (below : ℕ) (ws : List ℕ) (t : Tile) → total_weight ws t.sym
 light_below zero ws t h = tt
 light_below (suc b) ws t h = h
 
--- if no configuration is light, each one that lives weighs at least the bound
+-- if none of the living configurations is light, each of them weighs at least the bound
 pub none_lighter : (x : LocalRule) (p : Periods) (ws : List ℕ) (below : ℕ) → ((t : Tile) → IsLightWitness x p ws below t → ⊥) → (t : Tile) → IsLiving x p t →
     below ≤ total_weight ws t.symbols
 none_lighter x p ws below none t lives = elim (cases_lt (total_weight ws t.symbols) below) as (λ _. below ≤ total_weight ws t.symbols) [
@@ -21,7 +21,7 @@ none_lighter x p ws below none t lives = elim (cases_lt (total_weight ws t.symbo
   | inr least ↦ least
 ]
 
--- if the clauses are refuted, no configuration is light
+-- if the clauses are refuted, no living configuration is light
 pub none_light : (x : LocalRule) (p : Periods) (ws : List ℕ) (below : ℕ) (steps : List Step) → ShowsWeights (weight_problem x p ws below).clauses x p ws below →
     IsRefuting (weight_problem x p ws below) steps → (t : Tile) → IsLightWitness x p ws below t → ⊥
 none_light x p ws below steps shows refuting t light =
@@ -33,7 +33,7 @@ pub none_lives : (x : LocalRule) (p : Periods) (ws : List ℕ) (steps : List Ste
     IsRefuting (weight_problem x p ws 0) steps → NoneOn x p
 none_lives x p ws steps shows refuting t lives = none_light x p ws 0 steps shows refuting t (record { along = lives.0; witness = lives.1; light = tt })
 
--- a configuration that lives has the least weight, if its weight is 0 or the clauses that ask for less are refuted
+-- a living configuration has the least weight, if its weight is 0 or the clauses that ask for less are refuted
 pub least_refuted : (x : LocalRule) (p : Periods) (ws : List ℕ) (w : ℕ) (t : Tile) (steps : List Step) → IsLiving x p t → total_weight ws t.symbols ≡ w →
     (0 < w → ShowsWeights (weight_problem x p ws w).clauses x p ws w) → (0 < w → IsRefuting (weight_problem x p ws w) steps) → LeastOn x p ws w
 least_refuted x p ws w t steps lives weighs shows refuting = record {
@@ -62,7 +62,7 @@ module _ (x : LocalRule) (p : Periods) (ws : List ℕ) (rule : IsRule x) (ok : A
   pub none_claimed : (steps : List Step) → IsRefuting (weight_problem x p ws 0) steps → NoneOn x p
   none_claimed steps refuting = none_lives x p ws steps (weight_shows x p ws 0 rule ok same) refuting
 
--- there is at most one least weight, and none if no configuration lives
+-- there is at most one least weight, and none if there is no living configuration
 pub least_unique : (x : LocalRule) (p : Periods) (ws : List ℕ) (v w : ℕ) → LeastOn x p ws v → LeastOn x p ws w → v ≡ w
 least_unique x p ws v w one two =
     let here = two.least one.some.0 one.some.1 in

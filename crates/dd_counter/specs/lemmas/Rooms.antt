@@ -1,5 +1,5 @@
--- Facts about the cells of a torus and about a configuration that lives: its symbols have weights, and the clauses that ask for less than its weight
--- are few enough.
+-- Facts about the cells of a torus and about a living configuration: its symbols have weights, and the clauses that ask for less than its weight are
+-- few enough.
 use Rattle.std.proofs.Common.{◌≡◌, ℕ, ◌*◌, ◌<◌, ◌≤◌, List, length, ap, sym, subst, arith}
 use Rattle.std.proofs.lemmas.Nat.{mul-le}
 use Rattle.std.specs.List.{All}

@@ -19,7 +19,7 @@ use Rattle.dd_counter.specs.lemmas.Fitting.{rows_fit}
 use Rattle.dd_counter.specs.lemmas.Extending.{extension, extension_alike, extension_agrees}
 use Rattle.dd_values.specs.lemmas.Booleans.{not_true}
 
--- the clauses are satisfied exactly if each of their three parts is
+-- the clauses are satisfied exactly when each of their three parts is
 parts : (set : ℕ → Bool) (base gates last : List (List Literal)) → is_satisfied set ((base ++ gates) ++ last) ≡ ((is_satisfied set base && is_satisfied set gates) && is_satisfied set last)
 parts set base gates last = list_all-append (is_clause_true set) (base ++ gates) last ∙ ap (λ b. b && is_satisfied set last) (list_all-append (is_clause_true set) base gates)
 

@@ -1,4 +1,5 @@
--- The density for a least mean: the mean divided by the number of positions in a slice.
+-- The density for a least mean. The mean of a closed walk is its weight divided by its number of edges. The density is the mean divided by the
+-- number of positions in a slice.
 use Rattle.std.specs.{Prelude.◌≡◌, Prelude.ℕ, Prelude.◌*◌, Prelude.◌<◌, Prelude.◌≤◌, Prelude.◌^◌, Prelude.List, Prelude.ℤ, List.All}
 use Rattle.dd_values.specs.Bounds.{most_number}
 use Rattle.dd_transfer.specs.Certificates.{IsInLowestTerms}

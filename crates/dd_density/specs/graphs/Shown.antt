@@ -19,10 +19,10 @@ pub record AreFallen (g : Transfer) (ranks : List ℕ) : Type 0 where
   pub each : length ranks ≡ g.states
   pub fall : AreRanks g ranks
 
--- along the edge from u by t, if there is one, the potential rises by at most l * w - m, where w is the edge's weight
+-- along the edge from the state u by the slice t, if there is one, the potential rises by at most l * w - m, where w is the edge's weight
 abbrev pub IsRiseAlong : Transfer → ℕ → ℕ → List ℤ → ℕ → ℕ → Type 0
 IsRiseAlong g m l ps u t = (v : ℕ) → next_of g u t ≡ Some v → (potential_of ps v -ℤ potential_of ps u) ≤ℤ (pos (l * weight_at g t) -ℤ pos m)
 
--- along the edge from u by t, if there is one, the rank falls
+-- along the edge from the state u by the slice t, if there is one, the rank falls
 abbrev pub IsFallAlong : Transfer → List ℕ → ℕ → ℕ → Type 0
 IsFallAlong g ranks u t = (v : ℕ) → next_of g u t ≡ Some v → slice_index ranks v < slice_index ranks u

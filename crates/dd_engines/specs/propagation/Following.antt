@@ -89,3 +89,9 @@ abbrev pub Passed : List (List Literal) → List (Option Bool) → List Entry �
 Passed clauses values new_entries new_values (Conflict conflict) = Conflicts clauses new_entries conflict
 Passed clauses values new_entries new_values More = FollowsMore clauses values new_entries new_values
 Passed clauses values new_entries new_values Settled = (new_values ≡ values) × All (IsSettled values) clauses
+
+-- what holds after a few passes, depending on how far propagation got
+abbrev pub PassedFew : List (List Literal) → List Entry → List (Option Bool) → Progress → Type 0
+PassedFew clauses new_entries new_values (Conflict conflict) = Conflicts clauses new_entries conflict
+PassedFew clauses new_entries new_values More = Follows clauses new_entries new_values
+PassedFew clauses new_entries new_values Settled = All (IsSettled new_values) clauses

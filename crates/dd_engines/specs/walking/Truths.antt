@@ -13,7 +13,7 @@ true_count values clause = count_by (is_true_under (true_variables values)) clau
 abbrev pub times_in : Literal → List Literal → ℕ
 times_in l clause = count_by (same_literal l) clause
 
--- the numbers of the clauses that contain the literal, each as often as its clause contains it; the clauses are numbered from `first` on
+-- the numbers of the clauses that contain the literal, each as often as its clause contains the literal; the clauses are numbered from `first` on
 abbrev pub occurrences : Literal → ℕ → List (List Literal) → List ℕ
 occurrences l first [] = []
 occurrences l first (c ∷ cs) = replicate (times_in l c) first ++ occurrences l (first + 1) cs

@@ -48,7 +48,7 @@ leaves_weaken = ind-Expanded Weakens (λ x y is p q w.
 abbrev both_tests : LeafTest → LeafTest → LeafTest
 both_tests p q c s = p c s && q c s
 
--- the leaves pass two tests at once exactly if they pass each of the two
+-- the leaves pass two tests at once exactly when they pass each of the two
 abbrev Joins : Expanded → Type 0
 Joins e = (p q : LeafTest) → leaves_pass (λ c s. p c s && q c s) e ≡ (leaves_pass p e && leaves_pass q e)
 
@@ -85,7 +85,7 @@ leaves_both = ind-Expanded Joins (λ x y is p q.
       ← is,
     ) (step_joins y p q))
 
--- the leaves pass a test that looks only at their cells exactly if each cell of the list `leaf_cells` passes it
+-- the leaves pass a test that looks only at their cells exactly when each cell of the list `leaf_cells` passes it
 abbrev TestsCells : Expanded → Type 0
 TestsCells e = (test : Cell → Bool) → leaves_pass (λ c s. test c) e ≡ list_all test (leaf_cells e)
 

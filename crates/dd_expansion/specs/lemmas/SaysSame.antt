@@ -38,7 +38,7 @@ holds_any_of es look = ap (λ h. h look) (fold-roll-Expanded (Look → Bool) hol
 pub holds_both_alike : (e f : Expanded) (look : Look) → holds (both_alike e f) look ≡ beq (holds e look) (holds f look)
 holds_both_alike e f look = ap (λ h. h look) (fold-roll-Expanded (Look → Bool) holds_step (Expanded-F.Iff e f))
 
--- some symbol below n is the symbol of both cells exactly if they have the same symbol and it is below n
+-- some symbol below n is the symbol of both cells exactly when they have the same symbol and it is below n
 abbrev are_both : Option ℕ → Option ℕ → ℕ → Bool
 are_both a b s = is_symbol s a && is_symbol s b
 

@@ -1,4 +1,4 @@
--- A formula is true at cells moved by v exactly if it is true at the cells themselves in the configuration moved by -v.
+-- A formula is true at cells moved by v exactly when it is true at the cells themselves in the configuration moved by -v.
 use Rattle.std.proofs.Common.{◌≡◌, ℕ, zero, suc, Bool, true, false, List, [], ◌∷◌, ◌++◌, map, refl, ap, sym, ◌∙◌, Some, None, arith, ℤ, ◌+ℤ◌, cond}
 use Rattle.std.proofs.lemmas.{Int.ints, Bool.Decides.Decides-int_eq, List.map-append}
 use Rattle.std.proofs.lemmas.{List.Folds.list_all-map, List.Folds.flat_map-map, Option.slice_get-map}
@@ -25,7 +25,7 @@ option_map_both : {A B C : Type 0} (f : B → C) (g : A → B) (h : A → C) (sa
 option_map_both f g h same None = refl
 option_map_both f g h same (Some a) = ap Some (same a)
 
--- if a cell is moved by v, the cells to which edges, moves and balls lead from it are moved by v too
+-- if a cell is moved by v, so are the cells to which edges and moves lead from it, and the cells of the balls round it
 module _ (v : Place) where
   pub end_of_shifted : (c : Cell) (e : Edge) → end_of (shifted v c) e ≡ shifted v (end_of c e)
   end_of_shifted c e = ap (λ p. cell p e.to) (moved_both c.position v e.offset)

@@ -19,7 +19,7 @@ seen_extends look v c =
     cond_both (is_in_range (moved c.position v)) (look (shifted v c)) None (λ o. is_some o ≡ true → o ≡ look (shifted v c)) (λ _ _. refl) (λ _ h. absurd (cc))
 
 module _ (es : List Edge) (n : ℕ) (f : Formula) where
-  -- the expansion at the origin, with symbols taken relative to v, is true exactly if the formula is true at v
+  -- the expansion at the origin, with symbols taken relative to v, is true exactly when the formula is true at v
   pub says_at : (look : Look) (v : Place) (a : ℕ) → HasSymbolsBelow n look → holds (expansion es n f (origin_at a ∷ [])) (λ d. look (shifted v d)) ≡ truth es f (cell v a ∷ []) look
   says_at look v a below =
       says_same es n f (origin_at a ∷ []) (λ d. look (shifted v d)) (λ d. below (shifted v d))

@@ -1,4 +1,5 @@
--- A rule's numbered expansion is true exactly where the rule is. In it, numbers stand for cells. The cells that a rule reads have nodes of the rule.
+-- A rule's expansion is its formula with all quantifiers written out. In its numbered expansion, numbers stand for cells. The numbered expansion is
+-- true exactly where the rule is true. Each cell that a rule reads has one of the rule's nodes.
 use Rattle.std.specs.{Prelude.All, List.position_or_len, List.list_all, List.fold, Ordering.is_eq, BTreeSet.insert_key}
 use Rattle.dd_pattern.specs.{Reading.HasSymbolsBelow, Reading.Look, Filling.filling_look, Filling.filled}
 use Rattle.dd_lattice.specs.{Order.cell_cmp, declared.position.Cell.Cell, Cells.shifted, Cells.cell, Place.Place, Place.place}
@@ -15,7 +16,7 @@ use Rattle.dd_numbered.specs.{declared.numbered.Numbered.Numbered, Numbered.hold
 pub look_below : (n : ℕ) (cs : List Cell) (ss : List ℕ) → All (λ s. s < n) ss → HasSymbolsBelow n (filling_look (filled cs ss))
 look_below n cs ss below c = below_at n ss below (position_or_len (λ d. is_eq (cell_cmp d c)) cs)
 
--- at each position v, the expansion, with its cells taken relative to v, is true exactly if the rule is true
+-- at each position v, the expansion, with its cells taken relative to v, is true exactly when the rule is true
 abbrev pub SaysTruth : LocalRule → ℕ → Expanded → Type 0
 SaysTruth r a e = (look : Look) → HasSymbolsBelow r.symbols look → (v : Place) → holds e (λ c. look (shifted v c)) ≡ is_true r (cell v a) look
 

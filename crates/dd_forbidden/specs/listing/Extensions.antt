@@ -1,4 +1,4 @@
--- The fillings that begin with given symbols: the breaking ones, and all with allowed symbols.
+-- The fillings that begin with given symbols: the breaking ones, and all those with allowed symbols.
 use Rattle.std.specs.Prelude.{ℕ, ◌<◌, cond, List, [], ◌∷◌, ◌++◌, All}
 use Rattle.std.specs.List.{flat_map, range_with_len}
 use Rattle.dd_lattice.specs.declared.position.Cell.{Cell}

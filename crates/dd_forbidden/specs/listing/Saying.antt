@@ -4,6 +4,6 @@ use Rattle.dd_numbered.specs.{declared.numbered.Numbered.Numbered, Numbered.hold
 use Rattle.dd_formula.specs.LocalRule.{LocalRule}
 use Rattle.dd_forbidden.specs.{Breaking.is_true_at_origin, listing.Extensions.AreSymbols}
 
--- for all symbols ss of the cells that the rule reads, in cell order, the formula is true of ss exactly if the rule is true
+-- for all symbols ss of the cells that the rule reads, in cell order, the formula is true of ss exactly when the rule is true
 abbrev pub SaysRule : LocalRule → ℕ → Numbered → Type 0
 SaysRule r a e = (ss : List ℕ) → AreSymbols r ss → holds_in e ss ≡ is_true_at_origin r a ss

@@ -8,12 +8,12 @@ use Rattle.dd_pattern.specs.lemmas.BoxLaws.{cell_at_index, index_of_cell, in_box
 use Rattle.dd_pattern.specs.lemmas.TileSizes.{index_below}
 use Rattle.dd_formula.specs.{LocalRule.LocalRule, LocalRule.rule_allows, Allowed.HasAllowed}
 
--- the symbol with the number k is one that its node allows
+-- the cell with the number k has a symbol that the cell's node allows
 abbrev pub IsAllowedAt : LocalRule → Tile → ℕ → Type 0
 IsAllowedAt r t k = rule_allows r (cell_in t k).node (get_or t.symbols k 0) ≡ true
 
--- if c is the cell with the number k, and `symbol` is the symbol with this number, then a test of c and `symbol` answers whether
--- the node of the cell with the number k allows its symbol
+-- Let c be the cell with the number k, and let `symbol` be the symbol with this number. If b says whether the node of c allows
+-- `symbol`, then b says whether the cell with the number k has a symbol that the cell's node allows.
 pub allowed_is : (r : LocalRule) (t : Tile) (k : ℕ) (c : Cell) (symbol : ℕ) (b : Bool) → c ≡ cell_in t k → symbol ≡ get_or t.symbols k 0 →
     b ≡ rule_allows r c.node symbol → rule_allows r (cell_in t k).node (get_or t.symbols k 0) ≡ b
 allowed_is r t k c symbol b is_cell is_symbol told =

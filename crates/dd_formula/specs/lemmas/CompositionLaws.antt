@@ -30,7 +30,7 @@ range_fails p n i below here = by (list_all p (range_with_len 0 n)) refl
     by true e = absurd (let passes = range_at p 0 n i e (omega arith) (omega arith) in cc)
     by false e = e
 
--- if a test has the same result for all numbers, a range of at least one number passes it exactly if 0 does
+-- if a test has the same result for all numbers, a range of at least one number passes it exactly when 0 does
 range_constant : (p : ℕ → Bool) → ((a : ℕ) → p a ≡ p 0) → (k n : ℕ) → list_all p (range_with_len k (suc n)) ≡ p 0
 range_constant p same k zero = and_true (p k) ∙ same k
 range_constant p same k (suc n) = ap (λ b. p k && b) (range_constant p same (k + 1) n) ∙ (ap (λ b. b && p 0) (same k) ∙ and_same (p 0))

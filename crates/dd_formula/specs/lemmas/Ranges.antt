@@ -27,7 +27,7 @@ total_push f n =
     ∙ (ap total (map-append f (range_with_len 0 n) (n ∷ []))
     ∙ (total-append (map f (range_with_len 0 n)) (f n ∷ []) ∙ ap (λ m. total (map f (range_with_len 0 n)) + m) one))
 
--- a fold over joined lists, one list for each of the first numbers: one more number adds one more list
+-- a fold over joined lists, one list for each of the first n numbers: for one more number, the fold goes on over one more list
 pub fold_push : {X Y : Type 0} (h : Y → X → Y) (from : Y) (f : ℕ → List X) (n : ℕ) →
     fold h from (flat_map f (range_with_len 0 (n + 1))) ≡ fold h (fold h from (flat_map f (range_with_len 0 n))) (f n)
 fold_push h from f n =

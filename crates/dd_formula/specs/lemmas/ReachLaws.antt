@@ -1,4 +1,4 @@
--- How far away rules and automata read cells, and that they read only cells within that distance.
+-- Bounds on reach: the reach of a rule or an automaton is at most k exactly when it reads only cells that lie at most k away.
 use Rattle.std.proofs.Common.{◌≡◌, ℕ, zero, suc, ◌+◌, ◌<◌, ◌≤◌, Bool, true, List, [], ◌∷◌, refl, ap, sym, ◌∙◌, arith}
 use Rattle.std.proofs.lemmas.Bool.{and_from, leb-true, le-leb, Decides.nat_tests}
 use Rattle.std.proofs.lemmas.List.{Concat.flat_map-cons, Folds.list_all-append}
@@ -20,12 +20,12 @@ max_within a b k = grind (arith, nat_tests)
 none_far : (k : ℕ) → nat_le 0 k ≡ true
 none_far k = grind (arith, nat_tests)
 
--- the farthest cell of a list lies at most k away exactly if all cells of the list do
+-- the farthest cell of a list lies at most k away exactly when all cells of the list do
 all_within : (k : ℕ) (cs : List Cell) → nat_le (farthest cs) k ≡ list_all (is_within k) cs
 all_within k [] = none_far k
 all_within k (c ∷ cs) = max_within (extent c.position) (farthest cs) k ∙ ap (λ b. is_within k c && b) (all_within k cs)
 
--- a joined list passes a test exactly if each of its lists does
+-- a joined list passes a test exactly when each of its lists does
 list_all-flat_map : {X Y : Type 0} (p : Y → Bool) (f : X → List Y) (xs : List X) → list_all p (flat_map f xs) ≡ list_all (λ x. list_all p (f x)) xs
 list_all-flat_map p f [] = refl
 list_all-flat_map p f (x ∷ xs) =
@@ -37,7 +37,7 @@ pub all_numbers : (p : ℕ → Bool) (m n : ℕ) → ((k : ℕ) → k < m + n �
 all_numbers p m zero h = refl
 all_numbers p m (suc n) h = and_from _ _ (h m (omega arith)) (all_numbers p (m + 1) n (λ k below. h k (omega arith)))
 
--- the reach of a rule is at most k exactly if at each node it reads only cells that lie at most k away
+-- the reach of a rule is at most k exactly when at each node it reads only cells that lie at most k away
 nodes_within : (r : LocalRule) (k : ℕ) → nat_le (reach r) k ≡ list_all (λ a. list_all (is_within k) (cells_at r a)) (range_with_len 0 r.nodes)
 nodes_within r k = all_within k (all_cells r) ∙ list_all-flat_map (is_within k) (cells_at r) (range_with_len 0 r.nodes)
 

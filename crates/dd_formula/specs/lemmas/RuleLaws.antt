@@ -1,4 +1,4 @@
--- Whether a rule is true at a position, from its expansion at the origin and from the symbols that it reads there.
+-- Whether a rule is true at a cell, from its expansion at the cell's node and from the symbols that it reads at the cell.
 use Rattle.std.proofs.Common.{◌≡◌, ◌≤◌, ℕ, Bool, true, [], ◌∷◌, ap, sym, ◌∙◌, Some, None}
 use Rattle.std.proofs.lemmas.Bool.{eqb-true}
 use Rattle.std.specs.{Prelude.Option, Prelude.is_some, List.list_all}
@@ -9,11 +9,11 @@ use Rattle.dd_expansion.specs.lemmas.{LeavesAreReads.leaves_are_reads, TruthKeep
 use Rattle.dd_expansion.specs.lemmas.TruthAt.{at_origin, says_at}
 use Rattle.dd_formula.specs.LocalRule.{LocalRule, expansion_at, reads_at, cells_at, is_true}
 
--- the expansion at the cell's node, with the cells in its leaves relative to the cell, is true exactly if the rule is true at the cell
+-- the expansion at the cell's node, with the cells in its leaves relative to the cell, is true exactly when the rule is true at the cell
 pub at_cell : (r : LocalRule) (c : Cell) (look : Look) → HasSymbolsBelow r.symbols look → holds (expansion_at r c.node) (λ d. look (shifted c.position d)) ≡ is_true r c look
 at_cell r c look below = says_at r.edges r.symbols r.formula look c.position c.node below
 
--- a rule is true at a position exactly if it is true at the origin in the configuration moved back
+-- a rule is true at a cell exactly when it is true at the same node of the origin in the configuration moved back
 pub truth_moved_back : (r : LocalRule) (v : Place) (a : ℕ) (look : Look) → is_true r (cell v a) look ≡ is_true r (origin_at a) (λ d. look (shifted v d))
 truth_moved_back r v a look = ap (λ c. is_true r c look) (sym (at_origin v a)) ∙ truth_shifted r.edges r.formula v (origin_at a ∷ []) look
 
@@ -41,7 +41,7 @@ truth_by_given r a u v less more same given =
     ∙ (truth_depends r.edges r.formula (origin_at a ∷ []) (λ d. is_some (less (shifted u d))) (λ d. less (shifted u d)) (λ d. more (shifted v d)) same given
     ∙ sym (truth_moved_back r v a more))
 
--- the cells in an expansion's leaves pass a test exactly if the cells that the rule reads pass it
+-- the cells in an expansion's leaves pass a test exactly when the cells that the rule reads pass it
 pub leaves_pass_reads : (r : LocalRule) → 1 ≤ r.symbols → (a : ℕ) (test : Cell → Bool) → leaves_pass (λ c s. test c) (expansion_at r a) ≡ list_all test (reads_at r a)
 leaves_pass_reads r some a test = leaves_are_reads r.edges r.symbols some r.formula (origin_at a ∷ []) test
 

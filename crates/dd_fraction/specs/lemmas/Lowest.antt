@@ -1,5 +1,5 @@
--- Lowest terms: two pairs of numbers with equal cross products have the same lowest terms. So an equation of fractions is shown as an equation of
--- whole numbers.
+-- Lowest terms: two pairs of numbers with equal cross products have the same lowest terms. So an equation of fractions
+-- follows from an equation of whole numbers.
 use Rattle.std.proofs.Common.{◌≡◌, ℕ, zero, suc, ◌*◌, ◌/◌, ◌<◌, refl, sym, ap, subst, ◌∙◌, max, arith}
 use Rattle.std.proofs.lemmas.{Int.ints, Int.unsigned_abs-mul, Nat.Gcd.same_from_IsGcd}
 use Rattle.std.proofs.Math.Nat.{eq_of_mul-eq-mul_right, div-mul_cancel, mul_comm, div-one}
@@ -26,7 +26,7 @@ pub size_over : (n : ℤ) (g : ℕ) → unsigned_abs (int_div n (pos g)) ≡ uns
 size_over (pos n) g = refl
 size_over (negsuc n) g = omega (arith, ints)
 
--- a is what is left of the fraction n / d when n and d are divided by their common divisor g
+-- a is what is left of the fraction n / d when n and d are divided by a common divisor g
 pub record Parts (n : ℤ) (d : ℕ) (a : Exact) (g : ℕ) : Type 0 where
   pub above : 0 < g
   pub num : a.num *ℤ pos g ≡ n

@@ -1,4 +1,4 @@
--- The list of a box's positions by their numbers is ascending, and has exactly the positions within the box.
+-- The list of a box's positions, in the order of their numbers, is ascending. It has exactly the positions within the box.
 use Rattle.std.proofs.Common.{◌≡◌, ℕ, zero, suc, ◌+◌, ◌*◌, ◌<◌, ◌≤◌, [], ◌∷◌, ◌++◌, ℤ, ◌≤ℤ◌, arith, ap, sym, subst, inl, inr}
 use Rattle.std.proofs.lemmas.{Int.ints, Nat.mul-add-lt, Nat.same_from_place, Bool.cases_order, Bool.cases_lt}
 use Rattle.std.proofs.lemmas.List.Elements.{Contains-append_left, Contains-push, Contains-push_cases}

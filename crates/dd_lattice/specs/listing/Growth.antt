@@ -1,4 +1,5 @@
--- A region stretched along an axis: the union of its copies, moved along the axis by every number of steps between two bounds.
+-- A region stretched along an axis. For each number of steps between two bounds, a copy of the region is moved along the axis by this number. The
+-- stretched region is the union of these copies.
 use Rattle.std.specs.{Prelude.◌≡◌, Prelude.ℤ, Prelude.pos, Prelude.◌≤ℤ◌, Prelude.◌<ℤ◌, Prelude.◌⊎◌, Prelude.List, List.Contains}
 use Rattle.dd_lattice.specs.{Place.Place, Place.place, Place.moved, Regions.PlaceSet, Regions.IsMoved, declared.growing.Axis.Axis}
 use Rattle.dd_lattice.specs.declared.growing.Axis.TheVariants.{X, Y, Z}

@@ -1,4 +1,4 @@
--- One step of a walk through two ascending lists. What it does depends on how their next positions p and q compare. It gives the lesser of p and q.
+-- One step of a walk through two ascending lists. The step compares the next positions of the lists, p and q, and gives the lesser one.
 use Rattle.std.specs.{Prelude.ℕ, declared.cmp.Ordering.Ordering}
 use Rattle.std.specs.declared.cmp.Ordering.TheVariants.{Less, Equal, Greater}
 use Rattle.dd_lattice.specs.Place.{Place}

@@ -38,7 +38,7 @@ pub truth_symbol : (es : List Edge) (t : ℕ) (c : Cell) (look : Look) → truth
 truth_symbol es t c look =
     ap (λ f. truth es f (c ∷ []) look) (sym (v.rolls-Symbol here t)) ∙ ap (λ h. h (c ∷ []) look) (fold-roll-Formula Truth (truth_step es) (Formula-F.Symbol here t))
 
--- Let a cell have the symbol t. There, the guards of other nodes are true. The guard of the cell's own node is true exactly if the node allows t,
+-- Let a cell have the symbol t. There, the guards of other nodes are true. The guard of the cell's own node is true exactly when the node allows t,
 -- since the guard lists the symbols that the node allows. A node without a guard allows all symbols.
 module _ (es : List Edge) (s : SymbolSets) (c : Cell) (t : ℕ) (look : Look) (gives : look c ≡ Some t) (below : t < s.symbols) where
   symbols_say : (a : ℕ) → list_any (λ f. truth es f (c ∷ []) look) (map symbol_is (allowed_symbols s a)) ≡ allows s a t

@@ -15,7 +15,7 @@ use Rattle.dd_maps.specs.Pairs.{IsRuleOver, guarded_of, marked, own_symbol, iden
 use Rattle.dd_maps.specs.Images.{image, DifferAt, BreaksAt, ChangesAt, HasSymbolAt, AtSomeNode, Differ, ImageBreaks, Changes, HasSymbols}
 use Rattle.dd_maps.specs.lemmas.GuardLaws.{truth_symbol, guarded_says}
 
--- if P and Q hold at the same cells of a position, P holds at some node of it exactly if Q does
+-- if P and Q hold at the same cells of a position, P holds at some node of it exactly when Q does
 same_nodes : (n : ℕ) (P Q : Cell → Type 0) (v : Place) → ((a : ℕ) → a < n → P (cell v a) ↔ Q (cell v a)) → AtSomeNode n P v ↔ AtSomeNode n Q v
 same_nodes n P Q v each = (λ h. (h.0, h.1, (each h.0 h.1).0 h.2), λ h. (h.0, h.1, (each h.0 h.1).1 h.2))
 
@@ -27,7 +27,7 @@ value_always_zero g s look c = value_given _ look c
 value_marked : (g : Grid) (s : SymbolSets) (y : LocalRule) (look : Look) (c : Cell) → value (marked g s y) look c ≡ cond (truth g.edges (guarded_of s y) (c ∷ []) look) 0 1
 value_marked g s y look c = value_given _ look c
 
--- a number that is 0 if two facts hold, else 1, differs from 0 exactly if one of the facts fails
+-- a number that is 0 if two facts hold, else 1, differs from 0 exactly when one of the facts fails
 differs_where : (a b : Bool) (x z : ℕ) → x ≡ cond (a && b) 0 1 → z ≡ 0 → (x ≡ z → ⊥) ↔ ((b ≡ false) ⊎ (a ≡ false))
 differs_where true true x z h h' = (λ other. absurd (other (h ∙ sym h')), λ e. elim e [ inl bad ↦ absurd (cc) | inr bad ↦ absurd (cc) ])
 differs_where true false x z h h' = (λ other. inl refl, λ e same. absurd (let both : 1 ≡ 0 = sym h ∙ (same ∙ h') in omega arith))

@@ -1,4 +1,4 @@
--- The edges of a transfer graph as a list.
+-- The edges of a transfer graph as a list. A window is a state followed by a slice, and may be an edge.
 use Rattle.std.specs.Prelude.{◌≡◌, ℕ, ◌*◌, ◌/◌, ◌%◌, ◌<◌, List, map, slice_index, ℤ, pos, ◌-ℤ◌, ◌≤ℤ◌, Option, Some}
 use Rattle.std.specs.{Option.option_map, List.Contains, List.All}
 use Rattle.dd_transfer.specs.{Graphs.Transfer, Graphs.next_of, Graphs.weight_at, Certificates.potential_of}
@@ -27,7 +27,7 @@ ArePotentialsAlong m l ps edges = All (λ e. (potential_of ps e.to -ℤ potentia
 abbrev pub AreRanksAlong : List ℕ → List Edge → Type 0
 AreRanksAlong ranks edges = All (λ e. slice_index ranks e.to < slice_index ranks e.from) edges
 
--- the two results are the same, but the second gives the cycle by the states to which its edges lead
+-- the two results are the same, but the second gives the cycle by the states to which its edges lead, and has signed potentials
 abbrev pub IsInStates : EdgeMean → Mean → Type 0
 IsInStates (edge_mean.Least m l cycle ps) (Least a b states qs) = (a ≡ m) × (b ≡ l) × (states ≡ map (λ e. e.to) cycle.items) × (qs ≡ map pos ps.items)
 IsInStates (edge_mean.Least m l cycle ps) (NoCycle qs) = ⊥

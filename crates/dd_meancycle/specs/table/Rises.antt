@@ -45,7 +45,7 @@ abbrev pub IsLesser : ℕ → Option ℕ → ℕ → ℕ → ℕ → ℕ → Typ
 IsLesser best None m l run r = r ≡ best
 IsLesser best (Some b) m l run r = (r ≤ best) × (r ≤ l * b + m * run) × ((r ≡ best) ⊎ (r ≡ l * b + m * run))
 
--- whether there is a walk whose weight, plus the weight `weight` of an edge, is `end`
+-- whether the entry is a weight, and this weight plus the weight `weight` of an edge is `end`
 abbrev pub arrives : Option ℕ → ℕ → ℕ → Bool
 arrives None weight end = false
 arrives (Some a) weight end = (a + weight) == end
@@ -54,8 +54,8 @@ arrives (Some a) weight end = (a + weight) == end
 abbrev pub is_back : List (Option ℕ) → ℕ → ℕ → Edge → Bool
 is_back before state weight e = (e.to == state) && arrives (at before e.from) e.weight weight
 
--- of `best` and the state `state`, for which the greatest mean of a rise is h, r is the one for which this greatest mean is
--- smaller
+-- Compares two states by the greatest mean of their rises: the state in `best`, and `state`, for which this mean is h. r is the
+-- one with the smaller mean. If there is no h, r is `best`; else, if there is no `best`, r is `state`.
 abbrev pub IsGentler : Option Steep → ℕ → Option Ratio → Option Steep → Type 0
 IsGentler best state None r = r ≡ best
 IsGentler None state (Some h) r = r ≡ Some (record { state = state; mean = h })

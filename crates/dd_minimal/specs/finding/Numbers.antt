@@ -1,5 +1,5 @@
--- Fillings as words, which are lists of symbols. Words are numbered from 0 in lexicographic order. Also the numbers of the words that agree with a
--- pattern.
+-- Fillings as words, which are lists of symbols, and the numbers of the words that agree with a pattern. Words are numbered from 0 in lexicographic
+-- order.
 use Rattle.std.specs.Prelude.{ℕ, zero, suc, ◌≡◌, ◌<◌, ◌+◌, ◌-◌, ◌*◌, ◌/◌, ◌%◌, ◌^◌, Option, Some, None, IfSome, List, [], ◌∷◌, length, map}
 use Rattle.std.specs.List.{All}
 

@@ -1,4 +1,5 @@
--- Readers. A reader takes bytes to the value with which they begin and the bytes after it, or else to the place where reading stops.
+-- Readers. A reader takes bytes to the value with which they begin and the bytes after it, or else to the place where reading stops. The least
+-- text of a value is the text that is missing if reading stops before anything of the value was read.
 use Rattle.std.specs.Prelude.{◌≡◌, ℕ, zero, suc, ◌+◌, ◌*◌, ◌-◌, List, [], ◌∷◌, ◌++◌, length, take, drop, Result, Ok, Err, Bool, false, cond, ◌&&◌, ◌||◌, nat_lt, nat_le, ◌==◌, replicate}
 use Rattle.dd_output.specs.declared.fault.ReadFault.{ReadFault}
 use Rattle.dd_output.specs.declared.fault.ReadFault.TheVariants as faults

@@ -23,8 +23,7 @@ residue_below x n h = let p = raised x n h in rw (residue_is x n (unsigned_abs x
 pub residue_small : (k n : ℕ) → k < n → residue (pos k) n ≡ k
 residue_small k n h = mod-eq_of_lt h
 
--- x with n added `times` times equals the residue of x with n added `times'` times; and `times'` is `times` plus the quotient of
--- x by n
+-- x + times * n equals r + times' * n, where r is the residue of x modulo n; and times' is times plus the quotient of x by n
 pub record Met (x : ℤ) (n : ℕ) : Type 0 where
   pub times : ℕ
   pub times' : ℕ

@@ -64,7 +64,7 @@ base_in_box d p ok v =
       record { on_x = omega (arith, ints); on_y = omega (arith, ints); on_z = omega (arith, ints) },
     )
 
--- cells with the same base have the same number
+-- if two positions have the same base, then the symbols of their cells with the node a have the same index
 pub index_same : (t : Tile) (v w : Place) (a : ℕ) → base_of t.periods v ≡ base_of t.periods w → tile_index t (cell v a) ≡ tile_index t (cell w a)
 index_same t v w a h = ap (λ b. ((unsigned_abs b.z * t.periods.y + unsigned_abs b.y) * t.periods.x + unsigned_abs b.x) * t.nodes + a) h
 

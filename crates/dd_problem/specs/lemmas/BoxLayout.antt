@@ -1,4 +1,4 @@
--- The numbers of a box's cells are their places in the list.
+-- The number of each cell of a box is its index in the list of the box's cells.
 use Rattle.std.proofs.Common.{◌≡◌, ℕ, zero, suc, ◌*◌, ◌/◌, ◌%◌, ◌<◌, true, length, refl, ap, sym, ◌∙◌, arith, Some}
 use Rattle.std.proofs.lemmas.Bool.{and_parts, and_from, ltb-true, lt-ltb}
 use Rattle.std.proofs.lemmas.Nat.{mul-add-lt, div-mul-add, mod-mul-add, mod_below, div_below, div-add-mod'}
@@ -61,7 +61,7 @@ in_the_box x n k h =
 index_back : (x : LocalRule) (n k : ℕ) → box_index x n (box_cell x n k) ≡ k
 index_back x n k = rw (index_of_place (centred x.dimension n) (k / x.nodes)) (div-add-mod' k x.nodes)
 
--- at a cell's number stands that cell
+-- a cell of the box stands at its number
 pub box_cell_there : (x : LocalRule) (n : ℕ) (c : Cell) → is_box_cell x n c ≡ true → slice_get (box_cells x n) (box_index x n c) ≡ Some c
 box_cell_there x n c h = cell_at_number (centred x.dimension n) x.nodes (box_index x n c) (index_within x n c h) ∙ ap (λ d. Some d) (cell_at x n c h)
 

@@ -37,7 +37,7 @@ box_is_wired x g n rule ok reach =
     (λ k d is. ltb-true d.node x.nodes (and_parts (in_box x.dimension n d.position) (nat_lt d.node x.nodes) (box_cell_at x n k d is).0).1)
     (goal_reads_box x g n ok reach) (box_values x n rule g ok reach)
 
--- a look-up whose domain is the box is admissible exactly if the premise is true at all places of the layout where the premise
+-- a look-up whose domain is the box is admissible exactly when the premise is true at all places of the layout where the premise
 -- fits, that is, where all that it reads is in the layout
 holds_from_admissible : (x : LocalRule) (n : ℕ) (look : Look) → IsBoxFilling x n look → Admissible x look → premise_holds (box_layout x n) x look ≡ true
 holds_from_admissible x n look filling ok =
@@ -122,7 +122,7 @@ symbols_fit x n look rule filling = record {
       rw at (allowed_from (λ s. rule_allows x c.node s ≡ true) (look c) (filling.allowed c) (filling.domain c ∙ here)));
 }
 
--- symbols read by the cells, and by the cells' numbers
+-- from symbols that are read number by number to symbols that are read cell by cell
 read_by_cells : (set : ℕ → Bool) (x : LocalRule) (n : ℕ) (symbols : List ℕ) → length symbols ≡ length (box_cells x n) → AreRead set x.symbols symbols →
     IsReadFrom set x n (layout_look (box_layout x n) symbols)
 read_by_cells set x n symbols full read c s here below =
@@ -159,7 +159,7 @@ box_shows x g n rule ok reach =
           ));
     }
 
--- if `Shows` holds for the clauses and a box, the clauses are refuted exactly if the box suffices
+-- if `Shows` holds for the clauses and a box, the clauses are refuted exactly when the box suffices
 pub shown_decides : (clauses : List (List Literal)) (x : LocalRule) (g : GoalOf) (n : ℕ) → Shows clauses x g n → DecidesBox clauses x g n
 shown_decides clauses x g n shows = record {
   suffices = λ refuted look filling admissible goal.

@@ -27,7 +27,7 @@ symbols_below (suc (suc t)) =
     let whole = half n in
     omega (arith, least', rest, whole)
 
--- there are at most as many variables as clauses in the count
+-- the number of variables is at most the count of clauses
 pub variables_below : (l : Layout) (x : LocalRule) (g : GoalOf) (b : Bounds) → l.places ≡ cells_in b x.nodes → (problem l x g).variables ≤ question_clauses x g (volume b)
 variables_below l x g b places =
     let v = volume b in
@@ -45,7 +45,7 @@ variables_below l x g b places =
     let more = mul-add v (x.nodes * cell_clause_count x.symbols) (disallowed_pairs x) in
     omega (arith, split, premise, cells, goal, inputs, fewer, turned, spread, more)
 
--- there are at most as many positions as clauses in the count
+-- the number of positions is at most the count of clauses
 pub positions_below : (x : LocalRule) (g : GoalOf) (v : ℕ) → 1 ≤ x.nodes → v ≤ question_clauses x g v
 positions_below x g v some =
     let spread = mul-add v (x.nodes * cell_clause_count x.symbols + disallowed_pairs x) (rule_clauses x) in

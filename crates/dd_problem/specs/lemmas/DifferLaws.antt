@@ -59,7 +59,7 @@ signals_say set (s ∷ ss) v j (suc k) long says =
     one_on : (a t : ℕ) → a + suc t ≡ a + 1 + t
     one_on a t = omega arith
 
--- two values are apart at some symbol exactly if they are different
+-- two values are apart at some symbol exactly when they are different
 none_later : (u v j k : ℕ) → u < j → list_any (λ b. b) (each_apart (is_value u j k) (is_value v j k)) ≡ false
 none_later u v j zero h = refl
 none_later u v j (suc k) h =

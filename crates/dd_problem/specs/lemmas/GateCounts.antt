@@ -1,4 +1,4 @@
--- How many gates the premise and the goal have at most.
+-- Bounds on the number of gates of the premise and of the goal.
 use Rattle.std.proofs.Common.{◌≡◌, ℕ, ◌+◌, ◌≤◌, Bool, true, false, List, [], ◌∷◌, ◌++◌, map, length, ap, ◌∙◌, arith, length-append}
 use Rattle.std.specs.{Prelude.cond, List.filter, List.range_with_len}
 use Rattle.dd_lattice.specs.{Cells.cell, declared.position.Cell.Cell}
@@ -13,8 +13,8 @@ use Rattle.dd_problem.specs.{Layouts.Layout, Clauses.part_gates}
 use Rattle.dd_problem.specs.Problems.{wire, place_maker, premise_part, goal_part}
 use Rattle.dd_problem.specs.Differing.{apart, differ_made}
 
--- At most how many gates a rule has at a cell: the number of the gates' clauses. Then the same for several cells, and for several
--- nodes of one position.
+-- A bound on the number of gates of a rule at a cell: the number of the gates' clauses. Then the same for several cells, and for
+-- several nodes of one position.
 abbrev pub at_cell : LocalRule → Cell → ℕ
 at_cell r d = clause_count (expansion_at r d.node)
 

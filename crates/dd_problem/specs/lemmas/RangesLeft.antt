@@ -18,8 +18,8 @@ range_step w end h = let n : end - w ≡ suc (end - (w + 1)) = omega arith in rw
 pub range_ends : (w end : ℕ) → end ≤ w → range_to w end ≡ []
 range_ends w end h = let n : end - w ≡ 0 = omega arith in rw n refl
 
--- One pass of a loop over a range. `now` is what the passes so far gave, and `new` has what this pass gives as well. What all
--- passes give is `new`, and then what the passes to come give.
+-- One pass of a loop over a range. `now` is the list before this pass, and `new` is the list after it. The list after all passes
+-- is `new`, and then what the later passes add.
 pub left_step : {X : Type 0} (f : ℕ → X) (all now new : List X) (w end : ℕ) → w < end → all ≡ now ++ map f (range_to w end) → new ≡ now ++ f w ∷ [] →
     all ≡ new ++ map f (range_to (w + 1) end)
 left_step f all now new w end h so_far pushed =

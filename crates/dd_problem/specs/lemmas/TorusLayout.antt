@@ -78,7 +78,7 @@ module _ (x : LocalRule) (periods : Periods) (rule : IsRule x) (ok : AreTorusPer
   index_within : (c : Cell) → c.node < x.nodes → tile_index (torus x periods) c < torus_size x periods
   index_within c node = rw (← length-zeros x periods) (index_below (torus_of x periods (zeros x periods)) blank c node)
 
-  -- at a cell's number in the list stands the cell with the same node, at the cell's position modulo the periods
+  -- the item of the list at a cell's number is the cell with the same node, at the cell's position modulo the periods
   pub torus_cell_there : (v : Place) (a : ℕ) → a < x.nodes → slice_get (torus_cells x periods) (tile_index (torus x periods) (cell v a)) ≡ Some (cell (base_of periods v) a)
   torus_cell_there v a node =
       ap (λ cs. slice_get cs (tile_index (torus x periods) (cell v a))) listed

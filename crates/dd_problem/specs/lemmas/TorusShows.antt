@@ -41,7 +41,7 @@ module _ (x : LocalRule) (g : GoalOf) (periods : Periods) (rule : IsRule x) (goa
       wired_layout (torus_layout x g periods) x g rule goal (torus_is_layout x periods rule ok g) (λ k d is. (torus_cell_at x periods rule ok k d is).node)
       (goal_reads_torus x g periods goal) values
 
-  -- the rule is true everywhere exactly if it is true at all places of the layout
+  -- the rule is true everywhere exactly when it is true at all places of the layout
   holds_from_lives : (symbols : List ℕ) → Lives x (torus_of x periods symbols) → premise_holds (torus_layout x g periods) x (tile_look (torus_of x periods symbols)) ≡ true
   holds_from_lives symbols lives =
       filter_all (λ d. is_true x d (tile_look (torus_of x periods symbols))) (fits_in (torus_layout x g periods) x) (torus_cells x periods)

@@ -1,4 +1,4 @@
--- If the layout has inputs for what automata read at the origin, the gates of their values are right and say the values.
+-- If the layout has inputs for what automata read at the origin, the gates of their values are well formed and say the values.
 use Rattle.std.proofs.Common.{◌≡◌, ℕ, ◌+◌, ◌*◌, ◌<◌, ◌≤◌, Bool, true, List, [], ◌∷◌, length, ap, sym, subst, ◌∙◌, arith, inl, inr, Some, eq-eqb}
 use Rattle.std.proofs.lemmas.{Int.ints, Bool.and_parts, Bool.and_from, Bool.le-leb, Option.slice_get_within}
 use Rattle.std.proofs.lemmas.List.{Folds.list_all-map, FromFn.length-map-range_with_len}

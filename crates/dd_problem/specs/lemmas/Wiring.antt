@@ -17,7 +17,7 @@ use Rattle.dd_problem.specs.lemmas.Parted.{reads_inputs, goal_holds, goal_reads,
 use Rattle.dd_problem.specs.lemmas.Reading.{IsLayout, IsWired}
 use Rattle.dd_values.specs.lemmas.Booleans.{not_true}
 
--- if all numbers of a range pass a test, each one does; and `list_any` is true of a range exactly if some number of it passes
+-- if all numbers of a range pass a test, each one does; and `list_any` is true of a range exactly when some number of it passes
 pub range_at : (p : ℕ → Bool) (n a k : ℕ) → list_all p (range_with_len a n) ≡ true → a ≤ k → k < a + n → p k ≡ true
 range_at p zero a k h low high = absurd (omega arith)
 range_at p (suc n) a k h low high =
@@ -48,7 +48,7 @@ none_of_range p (suc n) a k low high h = elim (cases_first a k low) [
     or_later true y h = refl
     or_later false y h = h
 
--- the goal holds at the origin exactly if its test passes
+-- the goal holds at the origin exactly when its test passes
 pub goal_from_test : (g : GoalOf) (look : Look) → goal_holds g look ≡ true → HasGoal g look origin
 goal_from_test (breaks y) look h =
     let r = any_range (λ a. not (is_true y (cell origin a) look)) y.nodes 0 h in

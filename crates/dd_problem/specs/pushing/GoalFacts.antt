@@ -13,7 +13,7 @@ pub record HasValueFacts (x : LocalRule) (s : CommonNumbers) (f g : Automaton) :
   pub left_says : SaysItsValue f
   pub right_says : SaysItsValue g
 
--- the goal's rule satisfies the invariant of rules, and has the premise's dimension, nodes and symbols; a goal's two automata have the facts above
+-- the goal's rule satisfies the invariant of rules, and has the premise's dimension, nodes and symbols; for two automata, the facts above hold
 abbrev pub HasGoalFacts : LocalRule → GoalOf → Type 0
 HasGoalFacts x (breaks y) = IsRule y × AreAlike x y
 HasGoalFacts x (differ s f g) = HasValueFacts x s f g

@@ -1,4 +1,5 @@
--- The clauses of a box question over any inputs, as the code makes them.
+-- The clauses of a box question over any inputs, as the code makes them. At each node a rule has an expansion, a formula without
+-- variables. A leaf of the rule is a leaf of this formula: it says that a cell has a symbol.
 use Rattle.std.specs.Prelude.{ℕ, ◌+◌, ◌*◌, ◌≡◌, ◌&&◌, Bool, true, List, [], ◌∷◌, ◌++◌, map, length, Some}
 use Rattle.std.specs.List.{list_all, filter, range_with_len}
 use Rattle.dd_lattice.specs.{Place.Place, Cells.cell, declared.position.Cell.Cell}
@@ -46,7 +47,7 @@ wired_goal w (breaks y) = broken_part w y origin
 wired_goal w (differ s f g) = differ_part w s f g
 wired_goal w always = record { makers = []; tail = λ _. [] }
 
--- each cell that either automaton reads at a node of the origin has its signals
+-- each cell that either automaton reads at the node a of the origin has its signals
 abbrev pub are_both_wired : Wiring → ℕ → CommonNumbers → Automaton → Automaton → ℕ → Bool
 are_both_wired w n s f g a =
     are_wired_there n s.symbols w ((counted f).reads a) (cell origin a) && are_wired_there n s.symbols w ((counted g).reads a) (cell origin a)

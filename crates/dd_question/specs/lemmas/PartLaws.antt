@@ -1,4 +1,4 @@
--- The number of a box question of a conjugacy is at most 4.
+-- No box question of a conjugacy has a number over 4.
 use Rattle.std.proofs.{lemmas.Option.slice_get_within, Common.arith, Common.◌-◌, Common.ℕ, Common.◌<◌, Common.◌≤◌}
 use Rattle.dd_boxes.specs.Goals.{GoalOf}
 use Rattle.dd_question.specs.Conjugacies.{ConjugacyOf, IsPart, parts}

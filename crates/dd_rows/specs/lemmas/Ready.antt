@@ -1,4 +1,4 @@
--- Where the rule fits once the first cells have symbols. There more symbols don't change whether the rule is true.
+-- Where the rule fits once the first cells have symbols. At these places, more symbols don't change whether the rule is true.
 use Rattle.std.proofs.Common.{◌≡◌, ◌<◌, ◌≤◌, ◌+◌, ℕ, zero, suc, Bool, true, false, cond, List, [], ◌∷◌, ◌++◌, length, get_or, map, take, drop, min, max, refl, sym, ◌∙◌, ap, subst, inl, inr, arith, get_or-drop, length-drop, rules}
 use Rattle.std.proofs.lemmas.Bool.{and_parts, and_from, and_left, and_right, cases_lt, cases_order, cases_Bool, lt-ltb, le-ltb, ltb-true, ne_eqb, eq-eqb, false≢true}
 use Rattle.std.proofs.lemmas.List.{take-append-drop, get_or_default, length-append}
@@ -134,7 +134,7 @@ given_where x all near j ss d most size fits =
     (reads_at x d.node)
     (and_parts (is_some (look d)) (list_all (λ e. is_some (look (shifted d.position e))) (reads_at x d.node)) fits).1
 
--- what stays true when one more cell gets a symbol
+-- when one more cell gets a symbol, the rule has to be tested only at the places that this settles
 
 at_once : (e f f' g t t' : Bool) → e ≡ true → f ≡ false → f' ≡ true → g ≡ true → (not f' || t') ≡ ((not e || (not g || t')) && (not f || t))
 at_once e f f' g t t' he hf hf' hg = rw (he, hf, hf', hg) (and_true t')

@@ -1,5 +1,5 @@
--- Formulas over the symbols of a list of cells. Each formula says that the rule is true at a given place. A cell's number is
--- its index in the list.
+-- Formulas over the symbols of a list of cells. Each formula says that the rule is true at a given place. A place is one of the
+-- cells. A cell's number is its index in the list.
 use Rattle.std.specs.{Prelude.ℕ, Prelude.◌<◌, Prelude.◌≡◌, Prelude.Bool, Prelude.List, Prelude.length, Prelude.All, List.list_all}
 use Rattle.dd_lattice.specs.{Place.Place, declared.position.Cell.Cell}
 use Rattle.dd_expansion.specs.Leaves.{seen}
@@ -15,11 +15,11 @@ ranks_near cs v = seen (by_rank cs) v
 abbrev pub are_all_true : List Numbered → List ℕ → Bool
 are_all_true es ss = list_all (λ e. holds_in e ss) es
 
--- for any symbols of the cells, the formula is true exactly if the rule is true at the cell c
+-- for any symbols of the cells, the formula is true exactly when the rule is true at the cell c
 abbrev pub SaysTrue : LocalRule → List Cell → Cell → Numbered → Type 0
 SaysTrue x cs c e = (ss : List ℕ) → length ss ≡ length cs → All (λ s. s < x.symbols) ss → holds_in e ss ≡ is_true x c (look_of cs ss)
 
--- for any symbols of the cells, all formulas are true exactly if the rule is true at all of the places
+-- for any symbols of the cells, all formulas are true exactly when the rule is true at all of the places
 abbrev pub SayTrue : LocalRule → List Cell → List Cell → List Numbered → Type 0
 SayTrue x cs places es =
     (ss : List ℕ) → length ss ≡ length cs → All (λ s. s < x.symbols) ss → are_all_true es ss ≡ list_all (λ c. is_true x c (look_of cs ss)) places

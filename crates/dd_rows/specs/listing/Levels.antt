@@ -1,4 +1,4 @@
--- The levels of the search. Each level has the fillings of the first cells, and fills one cell more than the level before.
+-- The levels of the search for admissible fillings. Level k has the admissible fillings of the first k cells.
 use Rattle.std.specs.Prelude.{ℕ, ◌<◌, ◌≡◌, Bool, not, cond, ◌||◌, List, [], ◌∷◌, ◌++◌, map, filter, length, All}
 use Rattle.std.specs.{Bool.nat_eq, List.range_with_len, List.list_all}
 use Rattle.dd_lattice.specs.{Cells.shifted, Place.IsInRange, declared.position.Cell.Cell}

@@ -30,7 +30,7 @@ pub data JudgedFront (old new : Option (List ℕ)) (s : Parts) (answers : List A
 abbrev pub most_of : Parts → List Answer → ℕ
 most_of s answers = max (length s.queries) (length answers)
 
--- The lines up to the first rejected query were written.
+-- The lines up to that of the first rejected query were written.
 pub record RejectedHere (old new : Option (List ℕ)) (s : Parts) (answers : List Answer) : Type 0 where
   pub done : ℕ
   pub rejected : FirstRejected s answers done

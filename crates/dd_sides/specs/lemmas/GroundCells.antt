@@ -172,7 +172,7 @@ ground_cells x radius margin vs cs sites some flat = record {
   nodes = All-from_contains (λ c. c.node < x.nodes) cs (λ c h. (ground_reach x radius margin vs cs sites some flat c h).1);
 }
 
--- ---- the cells of the box of the radius
+-- ---- the cells of B(radius), the centred box
 
 itself : (c : ℤ) → c ≤ℤ c
 itself c = omega (arith, ints)

@@ -37,7 +37,7 @@ word_has f (x ∷ cs) c h = elim (cases_Bool (is_eq (cell_cmp x c))) [
   | inr there ↦ Contains-later x cs c (word_has f cs c (ap is_some (sym (read_later f x c cs there)) ∙ h))
 ]
 
--- what the words contain
+-- which lists `words` has
 
 pub words_have : (x : LocalRule) (f : Cell → ℕ) (cs : List Cell) → ((c : Cell) → Contains cs c → (rule_allows x c.node (f c) ≡ true) × (f c < x.symbols)) → Contains (words x cs) (map f cs)
 words_have x f [] ok = Contains-first [] []

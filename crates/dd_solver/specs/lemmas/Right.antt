@@ -1,4 +1,4 @@
--- A right outcome is an assignment exactly if some assignment satisfies the clauses, and a refutation exactly if none does.
+-- A right outcome is an assignment exactly when some assignment satisfies the clauses, and a refutation exactly when none does.
 use Rattle.std.proofs.Common.{ℕ, List}
 use Rattle.std.specs.Prelude.{◌↔◌}
 use Rattle.dd_clause.specs.declared.clause.Literal.{Literal}

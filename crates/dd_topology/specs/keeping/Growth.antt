@@ -2,8 +2,8 @@
 use Rattle.std.specs.Prelude.{◌⊎◌, ◌↔◌, List, Contains}
 use Rattle.dd_lattice.specs.declared.position.Cell.{Cell}
 
--- Adding `cells` to the cells `before` gives the cells `now`. `fresh` has only cells of `now`, and among them each cell of `now`
--- that isn't in `before`.
+-- Adding `cells` to the cells `before` gives the cells `now`. Each cell of `fresh` is in `now`, and each cell of `now` that isn't in
+-- `before` is in `fresh`.
 pub record AddsCells (before cells now fresh : List Cell) : Type 0 where
   pub members : (d : Cell) → Contains now d ↔ (Contains before d ⊎ Contains cells d)
   pub fresh_found : (d : Cell) → Contains fresh d → Contains now d

@@ -24,7 +24,7 @@ standpoint s v = record { strip = s; at = v }
 abbrev pub numbers_near : Standpoint → Numbering
 numbers_near p c = window_numbers p.strip (shifted p.at c)
 
--- the formula is true of a window's symbols exactly if the rule is true at the cell
+-- the formula is true of a window's symbols exactly when the rule is true at the cell
 abbrev pub SaysAt : LocalRule → Strip → Cell → Numbered → Type 0
 SaysAt r s c e = (ss : List ℕ) → HasSymbolsBelow r.symbols (window_look s ss) → holds_in e ss ≡ is_true r (cell c.position c.node) (window_look s ss)
 

@@ -122,7 +122,7 @@ lt_no v n p = grind (arith, p)
 pub eq_other : (v w : ℕ) → v ≢ w → nat_eq v w ≡ false
 eq_other v w h = grind arith
 
--- if o has a value whenever b is true, then "o if b is true, else None" has a value exactly if b is true
+-- if o has a value whenever b is true, then "o if b is true, else None" has a value exactly when b is true
 pub cond_domain : (b : Bool) (o : Option ℕ) → (b ≡ true → is_some o ≡ true) → is_some (cond b o None) ≡ b
 cond_domain true o h = h refl
 cond_domain false o h = refl

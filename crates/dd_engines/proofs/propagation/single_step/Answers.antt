@@ -1,15 +1,10 @@
-use Rattle.std.proofs.Common.{List, refl, subst}
-use Rattle.std.specs.List.{All}
-use Rattle.dd_clause.specs.declared.clause.Literal.{Literal}
-use Rattle.dd_engines.specs.propagation.Following.{IsSettled}
 use Rattle.dd_engines.proofs.Following.{settled_has_no_step}
 use Rattle.dd_engines.proofs.propagation.single_step.Goals as goal
 
-pub passes-init : goal.passes-init
-passes-init c = record { follows = c.in_ok-trail.ensures.follows _; long = refl }
+pub propagate-requires-clause-follows : goal.propagate-requires-clause-follows
+propagate-requires-clause-follows c = c.in_ok-trail.ensures.follows _
 
-pub returns-in-Settled : goal.returns-in-Settled
-returns-in-Settled c =
-    let values = c.passes.trail.values.items in
-    let passed = rw c.in-Settled.is at c.in_ok-conflict.ensures.passed in
-    settled_has_no_step c.args.cnf.now values (subst (λ (cs : List (List Literal)). All (IsSettled values) cs) c.clauses-clauses.ensures.value passed.1)
+pub returns-in_default : goal.returns-in_default
+returns-in_default c =
+    let settled = rw c.in_default.is at c.in_ok-conflict.ensures.passed in
+    settled_has_no_step c.args.cnf.now c.propagate.new.trail.values.items settled

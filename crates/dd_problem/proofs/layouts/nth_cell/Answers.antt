@@ -5,7 +5,7 @@ use Rattle.dd_problem.proofs.layouts.nth_cell.Goals as goal
 pub overflow_cast-result : goal.overflow_cast-result
 overflow_cast-result c = grind (arith, common_steps)
 
--- a cell has a node
+-- if there is a cell, there is a node
 some_node : (positions nodes number : ℕ) → number < positions * nodes → 0 < nodes
 some_node positions zero number within = absurd (omega (arith, within))
 some_node positions (suc nodes) number within = omega arith

@@ -1,7 +1,7 @@
 use Rattle.std.proofs.Common.{◌^◌, ◌+◌, ◌∙◌, ap}
 use Rattle.dd_formula.specs.{Counts.cut, lemmas.Cuts.cut_power}
 use Rattle.dd_counts.specs.Rules.{slices, state_length}
-use Rattle.dd_counts.proofs.rules.longer_states.Goals as goal
+use Rattle.dd_counts.proofs.rules.window_count.Goals as goal
 
 pub returns : goal.returns
 returns c =

@@ -1,0 +1,9 @@
+use Rattle.std.proofs.Common.{◌≡◌, length}
+use Rattle.dd_engines.specs.propagation.Following.{Follows}
+use Rattle.dd_engines.proofs.propagation.few_passes.Given as goal
+
+abbrev pub invariant-loop : goal.invariant-loop
+invariant-loop l = record {
+  follows : Follows l.clauses l.trail.entries.items l.trail.values.items;
+  long : length l.trail.values.items ≡ length l.initial.trail.values.items;
+}
