@@ -9,7 +9,6 @@ mod values;
 
 pub use clauses::{broken_clauses, place_clauses, question_clauses};
 pub use rules::{
-    MOST_PATTERNS, MOST_STATES, MOST_WINDOWS, least_x, patterns, state_length, states,
-    window_count,
+    MOST_PATTERNS, MOST_STATES, MOST_WINDOWS, least_x, patterns, state_length, states, window_count,
 };
 pub use values::differ_clauses;
