@@ -17,6 +17,9 @@ use dd_clause::Literal;
 use dd_trail::{Database, Entry, Order, Style, Trail};
 use std::alloc::{AllocError, Global};
 
+/// The lists that an analysis makes have room for this many items at first. Most don't grow longer.
+const USUAL_LENGTH: usize = 128;
+
 /// Where the search goes back to. The place is that of a decision on the trail. Once the entries from that place on are removed,
 /// the learned clause forces the literal.
 #[derive(Clone, Copy)]
@@ -202,9 +205,9 @@ fn walk_down(
     ensures right { IfOk result (λ r. is_rightly_learned (length marked.old) database.now r.literals.items r.hints.items ≡ true) }
     ensures backjump { IfOk result (λ r. MatchOption r.backjump (r.literals.items ≡ []) (Asserts trail.now.entries r.literals.items)) }
 {
-    let mut literals: Vec<Literal> = Vec::new(alloc);
-    let mut hints: Vec<u64> = Vec::new(alloc);
-    let mut variables: Vec<u32> = Vec::new(alloc);
+    let mut literals: Vec<Literal> = Vec::with_capacity(alloc, USUAL_LENGTH)?;
+    let mut hints: Vec<u64> = Vec::with_capacity(alloc, USUAL_LENGTH)?;
+    let mut variables: Vec<u32> = Vec::with_capacity(alloc, USUAL_LENGTH)?;
     let mut backjump: Option<Backjump> = None;
     hints.push(conflict)?;
     let mut open = mark_clause(database, trail, marked, conflict);

@@ -171,7 +171,7 @@ impl<'a> Search<'a> {
         )?;
         let clause = Clause::from_literals(alloc, learned.literals.as_slice())?;
         self.watches.add(learned.literals.as_slice())?;
-        let hints = Items::from_vec(learned.hints);
+        let hints = Items::from_slice(alloc, learned.hints.as_slice())?;
         let deletes = Items::from_vec(numbers);
         let step = Step {
             clause,

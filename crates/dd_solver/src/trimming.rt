@@ -90,43 +90,44 @@ fn new_number(clauses: usize, numbers: &[u64], number: u64) -> u64
     }
 }
 
-/// A copy of the step that uses the new numbers in its hints, and deletes nothing.
-fn keep_step(
-    alloc: Global,
-    clauses: usize,
-    numbers: &[u64],
-    step: &Step,
-) -> Result<Step, AllocError>
-    ensures { IfOk result (λ kept. kept ≡ kept_step (renamed clauses numbers.now) step.now) }
+/// Replaces each hint by the new number of the clause that it names.
+fn renumber(clauses: usize, numbers: &[u64], hints: &mut [u64])
+    ensures { hints.new ≡ map (renamed clauses numbers.now) hints.old }
 {
-    let hints: Vec<u64> = step
-        .hints
-        .as_slice()
-        .iter()
-        .map(|hint| new_number(clauses, numbers, *hint))
-        .collect(alloc)?;
-    Ok(Step {
-        clause: Clause::from_literals(alloc, step.clause.literals())?,
-        hints: Items::from_vec(hints),
-        deletes: Items::new(alloc),
-    })
+    for hint in hints.iter_mut() {
+        *hint = new_number(clauses, numbers, *hint);
+    }
 }
 
-/// Copies of the marked steps that use the new numbers in their hints, and delete nothing.
+/// The step with the new numbers in its hints. It deletes nothing.
+fn keep_step(alloc: Global, clauses: usize, numbers: &[u64], step: Step) -> Step
+    ensures { result ≡ kept_step (renamed clauses numbers.now) step }
+{
+    let Step { clause, hints, .. } = step;
+    let mut hints = hints.into_vec();
+    renumber(clauses, numbers, hints.as_mut_slice());
+    Step {
+        clause,
+        hints: Items::from_vec(hints),
+        deletes: Items::new(alloc),
+    }
+}
+
+/// The marked steps, with the new numbers in their hints. They delete nothing.
 fn keep_marked(
     alloc: Global,
     clauses: usize,
     numbers: &[u64],
     marked: &[bool],
-    steps: &[Step],
+    steps: Items<Step>,
 ) -> Result<Vec<Step>, AllocError>
-    requires { length marked.now ≡ length steps.now }
-    ensures { IfOk result (λ kept. kept.items ≡ kept_steps (renamed clauses numbers.now) marked.now steps.now) }
+    requires { length marked.now ≡ length steps }
+    ensures { IfOk result (λ kept. kept.items ≡ kept_steps (renamed clauses numbers.now) marked.now steps) }
 {
     let mut kept: Vec<Step> = Vec::new(alloc);
-    for (place, step) in steps.iter().enumerate() {
+    for (place, step) in steps.into_vec().into_iter().enumerate() {
         if marked[place] {
-            kept.push(keep_step(alloc, clauses, numbers, step)?)?;
+            kept.push(keep_step(alloc, clauses, numbers, step))?;
         }
     }
     Ok(kept)
@@ -144,12 +145,6 @@ pub fn trimmed(alloc: Global, cnf: &Cnf, steps: Items<Step>) -> Result<Items<Ste
     let clauses = cnf.clauses().len();
     let marked = mark_used(alloc, clauses, steps.as_slice())?;
     let numbers = find_numbers(alloc, clauses, marked.as_slice())?;
-    let kept = keep_marked(
-        alloc,
-        clauses,
-        numbers.as_slice(),
-        marked.as_slice(),
-        steps.as_slice(),
-    )?;
+    let kept = keep_marked(alloc, clauses, numbers.as_slice(), marked.as_slice(), steps)?;
     Ok(Items::from_vec(kept))
 }

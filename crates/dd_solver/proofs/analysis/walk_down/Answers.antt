@@ -8,7 +8,7 @@ none : Entry
 none = record { literal = record { variable = 0; positive = false }; reason = None }
 
 pub loop-i-init : goal.loop-i-init
-loop-i-init c = rw (c.entries-entries.ensures, c.in_ok-push.ensures.items, c.new-hints.ensures.items, c.new-literals.ensures.items) (walk_start (length c.mark_clause-open.new.marked) c.args.database.now c.args.trail.now.entries c.mark_clause-open.new.marked c.args.conflict c.requires.conflict c.mark_clause-open.ensures.marks)
+loop-i-init c = rw (c.entries-entries.ensures, c.in_ok-push.ensures.items, c.in_ok-hints.ensures.items, c.in_ok-literals.ensures.items) (walk_start (length c.mark_clause-open.new.marked) c.args.database.now c.args.trail.now.entries c.mark_clause-open.new.marked c.args.conflict c.requires.conflict c.mark_clause-open.ensures.marks)
 
 pub loop-i-preserved : goal.loop-i-preserved
 unfolding none

@@ -10,7 +10,7 @@ returns-clause-refutes c =
     let marked = c.in_ok-marked.marked.items in
     let steps = c.args.steps in
     let m : IsMarking (length cnf.clauses) 0 steps marked = rw (← c.clauses-clauses.ensures.value, ← c.as_slice.ensures) c.in_ok-marked.ensures in
-    rw (c.from_vec.ensures, c.in_ok-kept.ensures, c.as_slice-3.ensures.value, c.as_slice-4.ensures.value, c.as_slice-5.ensures, c.in_ok-numbers.ensures, c.as_slice-2.ensures.value, c.clauses-clauses.ensures.value) (marked_refute cnf.variables cnf.clauses steps marked m c.requires)
+    rw (c.from_vec.ensures, c.in_ok-kept.ensures, c.as_slice-3.ensures.value, c.as_slice-4.ensures.value, c.in_ok-numbers.ensures, c.as_slice-2.ensures.value, c.clauses-clauses.ensures.value) (marked_refute cnf.variables cnf.clauses steps marked m c.requires)
 
 pub returns-clause-used : goal.returns-clause-used
 returns-clause-used c =
@@ -18,13 +18,13 @@ returns-clause-used c =
     let marked = c.in_ok-marked.marked.items in
     let steps = c.args.steps in
     let m : IsMarking (length cnf.clauses) 0 steps marked = rw (← c.clauses-clauses.ensures.value, ← c.as_slice.ensures) c.in_ok-marked.ensures in
-    rw (c.from_vec.ensures, c.in_ok-kept.ensures, c.as_slice-3.ensures.value, c.as_slice-4.ensures.value, c.as_slice-5.ensures, c.in_ok-numbers.ensures, c.as_slice-2.ensures.value, c.clauses-clauses.ensures.value) (marked_used (length cnf.clauses) steps marked m)
+    rw (c.from_vec.ensures, c.in_ok-kept.ensures, c.as_slice-3.ensures.value, c.as_slice-4.ensures.value, c.in_ok-numbers.ensures, c.as_slice-2.ensures.value, c.clauses-clauses.ensures.value) (marked_used (length cnf.clauses) steps marked m)
 
 pub returns-clause-no_more : goal.returns-clause-no_more
-returns-clause-no_more c = rw (c.from_vec.ensures, c.in_ok-kept.ensures, c.as_slice-5.ensures) (no_more _ _ c.args.steps)
+returns-clause-no_more c = rw (c.from_vec.ensures, c.in_ok-kept.ensures) (no_more _ _ c.args.steps)
 
 pub returns-clause-no_deletes : goal.returns-clause-no_deletes
 returns-clause-no_deletes c =
     let clauses = length c.clauses-clauses.result.now in
     let e = c.from_vec.ensures ∙ c.in_ok-kept.ensures in
-    subst (All DeletesNothing) (sym e) (no_deletes (renamed clauses c.as_slice-3.result.now) c.as_slice-4.result.now c.as_slice-5.result.now)
+    subst (All DeletesNothing) (sym e) (no_deletes (renamed clauses c.as_slice-3.result.now) c.as_slice-4.result.now c.args.steps)
