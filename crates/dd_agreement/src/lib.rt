@@ -1,5 +1,6 @@
-//! Every right answer is a certificate. The check accepts exactly the certificates, so it accepts every right answer.
-//! `dd_respond` defines which answers are right, and `dd_verify` which are certificates.
+//! Every right answer to a question is a certificate. The check accepts an answer exactly when it is a certificate and an
+//! output can hold it: its numbers and lists are within the bounds that `dd_certificate` states. So the check accepts every
+//! right answer that an output can hold. `dd_respond` defines which answers are right, and `dd_verify` which are certificates.
 #![tactic(auto)]
 
 mod laws;

@@ -18,7 +18,7 @@ use std::alloc::{AllocError, Global};
 /// no engine is asked. The sound engines stay in the roster.
 ///
 /// # Errors
-/// Memory ran out.
+/// `AllocError` if memory ran out.
 pub fn answer<E: Engine>(
     alloc: Global,
     script: &Script,

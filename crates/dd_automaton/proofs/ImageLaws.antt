@@ -56,7 +56,7 @@ image_from_box f t n ok formed placed ss as_many each = record {
     below_by m (x ∷ xs) h zero d within = h zero (omega arith)
     below_by m (x ∷ xs) h (suc k) d within = below_by m xs (λ j below. h (suc j) (omega arith)) k d (omega arith)
 
--- the configuration's symbols are in the alphabet, and each cell that is read at a cell of the box has a symbol
+-- the configuration's symbols are in the alphabet
 pub tile_is_below : (n : ℕ) (t : Tile) → All (λ s. s < n) t.symbols → HasSymbolsBelow n (tile_look t)
 tile_is_below n t h c = by (nat_lt c.node t.nodes)
   where
@@ -64,6 +64,7 @@ tile_is_below n t h c = by (nat_lt c.node t.nodes)
     by true = below_at n t.symbols h (tile_index t c)
     by false = tt
 
+-- each cell that is read at a cell of the box has a symbol
 pub given_all : (t : Tile) (s : CommonNumbers) → IsPeriodic t → s.nodes ≡ t.nodes → (c : Cell) → IsInBox t c → (ds : List Cell) → list_all is_near ds ≡ true → list_all (is_cell_of s) ds ≡ true →
     are_given (tile_look t) c.position ds ≡ true
 given_all t s ok same c h [] near placed = refl
@@ -88,13 +89,14 @@ cases_look cases t h ok placed c within =
           (placed s fit c.node within.node);
     }
 
--- the image under a composition is the image of an image
+-- if a composition is defined on a configuration, so is its inner automaton
 pub defined_inner : (f g : Automaton) (t : Tile) → IsDefinedOn (v.Composed f g) t → IsDefinedOn g t
 defined_inner f g t h = record { symbols = h.symbols; formed = inner_part (tile_numbers t h.symbols) f g h.formed; below = h.below }
 
 same_numbers : (t u : Tile) (n : ℕ) → u.dimension ≡ t.dimension → u.nodes ≡ t.nodes → tile_numbers t n ≡ tile_numbers u n
 same_numbers t u n d a = ap (λ x. record { dimension = x; nodes = t.nodes; symbols = n }) (sym d) ∙ ap (λ x. record { dimension = u.dimension; nodes = x; symbols = n }) (sym a)
 
+-- if a composition is defined on a configuration, its outer automaton is defined on the image under the inner one
 pub defined_outer : (f g : Automaton) (t u : Tile) → IsDefinedOn (v.Composed f g) t → IsImage g t u → IsDefinedOn f u
 defined_outer f g t u h image = record {
   symbols = h.symbols;
@@ -102,6 +104,7 @@ defined_outer f g t u h image = record {
   below = image.below h.symbols (inner_part (tile_numbers t h.symbols) f g h.formed);
 }
 
+-- the image under a composition is the image of an image
 pub image_composed : (f g : Automaton) (t u w : Tile) → IsDefinedOn (v.Composed f g) t → IsPlaced f → IsImage g t u → IsImage f u w → IsImage (v.Composed f g) t w
 image_composed f g t u w h placed first second = record {
   dimension = second.dimension ∙ first.dimension;

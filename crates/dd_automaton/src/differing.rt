@@ -33,6 +33,9 @@ fn value_at_origin(
 }
 
 /// Whether the two automata give some cell at the origin different symbols.
+///
+/// # Errors
+/// `AllocError` if memory ran out.
 pub fn differ_at_origin(
     alloc: Global,
     left: &Automaton,

@@ -8,6 +8,9 @@ use std::alloc::{AllocError, Global};
 
 /// The image of the configuration under the automaton. It has the automaton's value at every cell, and the configuration's
 /// periods and shear. A value may be a symbol that the cell's node doesn't allow.
+///
+/// # Errors
+/// `AllocError` if memory ran out.
 pub fn apply(
     alloc: Global,
     automaton: &Automaton,

@@ -10,7 +10,7 @@ goal_clauses (breaks y) = broken_clauses y
 goal_clauses (differ s f g) = differ_clauses s.symbols s.nodes f g
 goal_clauses always = 0
 
--- the number of clauses of a question on a region of this many positions
+-- an upper bound on the number of clauses of a question on a region of this many positions
 abbrev pub question_clauses : LocalRule → GoalOf → ℕ → ℕ
 question_clauses x g positions = region_clauses x (goal_clauses g) positions
 
@@ -18,6 +18,7 @@ question_clauses x g positions = region_clauses x (goal_clauses g) positions
 abbrev pub most_clauses : ℕ
 most_clauses = 2000000
 
--- with radii up to n and periods up to p, the question has at most `most_clauses` clauses on its largest box and on its largest torus
+-- The question has at most `most_clauses` clauses on its largest box and on its largest torus. The box has the radius n or the goal's least radius,
+-- whichever is greater. The torus has the period p along each axis.
 abbrev pub IsSmallQuestion : LocalRule → GoalOf → ℕ → ℕ → Type 0
 IsSmallQuestion x g n p = (least : ℕ) → IsLeastRadius g least → largest_clauses x (goal_clauses g) (max n least) p ≤ most_clauses

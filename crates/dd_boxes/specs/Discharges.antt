@@ -1,4 +1,5 @@
--- What a discharging question may ask: along which vectors weight is given, and what the symbols weigh.
+-- What a discharging question may ask: along which vectors weight is given, and what the symbols weigh. In a discharge, each position first holds the
+-- weight of its symbols, and then gives amounts of it along the vectors.
 use Rattle.std.specs.Prelude.{ℕ, ◌≤◌, ◌≡◌, true, unsigned_abs, List, length}
 use Rattle.std.specs.{List.All, List.IsDistinct, Ordering.is_eq}
 use Rattle.dd_values.specs.Bounds.{most_weight}

@@ -25,7 +25,7 @@ abbrev pub in_box : ℕ → ℕ → Place → Bool
 in_box d n p =
     is_up_to (spread (is_active d 0) n) p.x && is_up_to (spread (is_active d 1) n) p.y && is_up_to (spread (is_active d 2) n) p.z
 
--- whether the cell is in B(n), in d dimensions and where each position has this many nodes
+-- whether the cell is in B(n), in d dimensions and with this many nodes at each position
 abbrev pub is_cell_in_box : ℕ → ℕ → ℕ → Cell → Bool
 is_cell_in_box d nodes n c = in_box d n c.position && nat_lt c.node nodes
 

@@ -12,6 +12,6 @@ goal_of x (Breaks y) = breaks y.now
 goal_of x (Differ f g) = differ (numbers_of x) f.now g.now
 goal_of x Always = always
 
--- the goal is one for questions with some rule x as their premise
+-- for some rule x, the goal is one for questions whose premise is x
 abbrev pub IsGoal : Goal → Type 0
 IsGoal g = (x : LocalRule) × IsGoalFor x (goal_of x g)

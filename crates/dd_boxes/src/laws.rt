@@ -15,6 +15,9 @@ use dd_formula::Rule;
 /// the goal at the origin. Then no admissible filling of any larger box has the goal at the origin. No admissible filling has
 /// the goal at a position if the filling's domain contains the box of this radius round the position. And no configuration that
 /// obeys the premise has the goal anywhere.
+///
+/// The contract also says which positions the box has, and that it contains all cells that the goal reads at the origin exactly
+/// when its radius is at least the goal's least radius.
 pub fn one_box(_premise: &Rule, _goal: &Goal)
     ensures { (radius : ℕ) → OneBox _premise.now (goal_of _premise.now _goal.now) radius }
 {}

@@ -1,5 +1,5 @@
--- An output can hold the steps that refute a list of clauses. The variables of the steps are in range, and each clause that a step hints at or
--- deletes comes before it.
+-- An output can hold the steps that refute a list of clauses, if variables, clauses and steps are few enough. The variables of the steps are in
+-- range, and each clause that a step hints at or deletes comes before it.
 use Rattle.std.proofs.Common.{◌≡◌, ℕ, zero, suc, ◌+◌, ◌<◌, ◌≤◌, Bool, true, false, not, ◌&&◌, ◌||◌, List, [], ◌∷◌, ◌++◌, length, map, Option, None, Some, is_some, slice_get, All, refl, sym, subst, ◌∙◌, ◌⊎◌, inl, inr, arith, nat_le, length-append}
 use Rattle.std.proofs.lemmas.Bool.{false≢true, leb-true, and_parts, or_cases}
 use Rattle.std.proofs.lemmas.List.{length-set, length-map, Elements.All-nil, Elements.All-cons}

@@ -41,8 +41,8 @@ pub struct Listed {
 pub struct Starred {
     /// The node's number, from 0.
     pub node: u64,
-    /// The numbers of the symbols, from 0, in the order of the cells that the rule reads at the node. `None` for a cell that is
-    /// left out.
+    /// The numbers of the symbols, from 0, in the order of the cells that the rule reads at the node. The entry of a cell that
+    /// is left out is `None`.
     pub symbols: Items<Option<u64>>,
 }
 
@@ -53,7 +53,7 @@ pub enum Answer {
     Inside,
     /// The rule is false at a cell of the configuration.
     Outside {
-        /// The coordinates of the cell, and then its node.
+        /// The coordinates of the cell, one for each dimension, and then its node.
         place: Items<i64>,
     },
     /// The claim holds.
@@ -63,7 +63,8 @@ pub enum Answer {
         /// Steps that refute the claim's negation on this box.
         steps: Items<Step>,
     },
-    /// The claim holds in both directions. Each direction has a refutation on a box of its own.
+    /// The claim of an equality query holds in both directions. The first direction is that each configuration of the first
+    /// rule obeys the second rule. The second direction is the converse. Each has a refutation on a box of its own.
     YesBoth {
         /// The radius of the first box.
         left: u64,
@@ -92,14 +93,15 @@ pub enum Answer {
     List {
         patterns: Items<Listed>,
     },
-    /// The least mean weight per position of the strip, as a fraction. It is the least over the configurations of the subshift
-    /// that have the strip's periods.
+    /// The least density, as a fraction, of the configurations of the subshift that have the strip's periods. A density is a
+    /// weight per position.
     Density {
         numerator: u64,
         denominator: u64,
-        /// The states of a cycle with this mean in the strip's transfer graph.
+        /// The states of a cycle with this density in the strip's transfer graph. The density of a cycle is its weight, divided
+        /// by its number of edges and by the number of positions in a slice.
         cycle: Items<u64>,
-        /// A number for each state. These numbers show that no cycle has a lower mean.
+        /// A number for each state. These numbers show that no cycle has a lower density.
         potentials: Items<i64>,
     },
     /// No configuration of the subshift has the strip's periods.
@@ -107,13 +109,14 @@ pub enum Answer {
         /// A number for each state of the transfer graph. These numbers fall along each edge, so no walk goes on forever.
         ranks: Items<u64>,
     },
-    /// A lower bound for the mean weight, as a fraction.
+    /// A lower bound for the densities of the configurations of the subshift, as a fraction.
     Bound {
         numerator: u64,
         denominator: u64,
         /// The common denominator of all amounts and duals.
         common: u64,
-        /// The numerators of the amounts that positions give along the query's vectors.
+        /// The numerators of the amounts that positions give, vector by vector, and for each vector pattern by pattern. What a
+        /// position gives along a vector depends on the pattern of symbols around the position.
         amounts: Items<u64>,
         /// The numerators of the duals: factors, one for each row of the query's linear program. They show that no amounts give a
         /// greater bound.
@@ -123,7 +126,8 @@ pub enum Answer {
     Minimal {
         patterns: Items<Starred>,
     },
-    /// The answer to each of the four questions of a conjugacy is yes.
+    /// The answer to each of the four questions of a conjugacy is yes. For automata f and g and subshifts X and Y, they are, in
+    /// order: does f map X into Y, does g map Y into X, does g undo f on X, and does f undo g on Y?
     Conjugate {
         /// For each question, the radius of a box.
         radii: Items<u64>,

@@ -1,4 +1,4 @@
--- What a certificate for a query of a script claims is true.
+-- The claim of each certificate for a query of a script is true.
 use Rattle.std.proofs.Common.{◌≡◌, ℕ, ◌+◌, ◌-◌, ◌<◌, ◌≤◌, length, refl, ap, sym, subst, ◌∙◌, arith, Some, None, inl, inr}
 use Rattle.std.proofs.lemmas.{Bool.cases_lt, Option.slice_get_within}
 use Rattle.std.specs.Prelude.{Option, IsSomeAnd, slice_get}
@@ -11,7 +11,7 @@ use Rattle.dd_verify.specs.Certificates.{IsCertificateOf, ClaimOf}
 use Rattle.dd_checker.specs.{Certificates.IsCertificateFor, Certificates.IsCertificate, Claims.ClaimFor, Claims.Claim}
 use Rattle.dd_checker.proofs.Verdicts.{claim_at}
 
--- what a certificate for the query claims is true
+-- the claim of each certificate for the query is true
 abbrev pub IsTruthful : Parts → Query → Type 0
 IsTruthful s q = (a : Answer) → IsCertificateFor s q a → ClaimFor s q a
 

@@ -1,5 +1,5 @@
--- What a certificate for a query about an image or a conjugacy claims is true. Such a query asks whether pairs of automata agree. The script doesn't
--- store these pairs, but the facts about their automata were proved when the script was read.
+-- The claim of each certificate for a query about an image or a conjugacy is true. Such a query consists of comparisons, and each comparison becomes
+-- a question about one pair of automata. The script doesn't store these pairs, but its invariant says what has to be known about their automata.
 use Rattle.std.proofs.Common.{◌≡◌, true, List, [], Some, None, Option, subst, arith}
 use Rattle.std.proofs.lemmas.{List.Elements.All-contains}
 use Rattle.std.specs.{List.All, List.Contains, Prelude.unwrap_or, Prelude.slice_get}

@@ -43,7 +43,7 @@ module _ (s : Parts) (number : ℕ) (q : Query) (is : query_at s number ≡ Some
   to_query : IsCertificate s number a → IsCertificateFor s q a
   to_query h = subst (λ (o : Option Query). IsSomeAnd o (λ p. IsCertificateFor s p a)) is h
 
-  -- what a certificate for the query claims is true
+  -- if a certificate for the query has a true claim, so has a certificate for the query's number
   pub claim_at : (IsCertificateFor s q a → ClaimFor s q a) → IsCertificate s number a → Claim s number a
   claim_at told h = subst (λ (o : Option Query). IsSomeAnd o (λ p. ClaimFor s p a)) (sym is) (told (to_query h))
 

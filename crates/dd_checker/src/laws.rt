@@ -15,7 +15,7 @@ use dd_query::Query;
 use dd_script::Script;
 use dd_verify::{claims_hold, claims_hold_for_goals};
 
-/// Changes nothing. Its contract says that what a certificate for the query claims is true.
+/// Changes nothing. Its contract says that the claim of each certificate for the query is true.
 pub(crate) fn query_certified(script: &Script, query: &Query)
     requires { Contains script.now.queries query.now }
     ensures { (answer : AnyAnswer) → IsCertificateFor script.now query.now answer → ClaimFor script.now query.now answer }
@@ -33,9 +33,9 @@ pub(crate) fn query_certified(script: &Script, query: &Query)
     }
 }
 
-/// Changes nothing. Its contract says that what a certificate for a query of the script claims is true. The claim of a bound
-/// covers boxes of every side length at every position: a box weighs at least the number of its positions times the bound, less
-/// what it may receive from outside.
+/// Changes nothing. Its contract says that the claim of each certificate for a query of the script is true. The claim of a
+/// bound covers boxes of every side length at every position: a box weighs at least the number of its positions times the
+/// bound, less what it may receive from outside.
 pub fn certified(script: &Script)
     ensures { (number : ℕ) (answer : AnyAnswer) → IsCertificate script.now number answer → Claim script.now number answer }
 {
@@ -45,9 +45,9 @@ pub fn certified(script: &Script)
     }
 }
 
-/// Changes nothing and allocates nothing. Its contract says what a YES means for any configuration, even one that is a function on
-/// all cells of Z^d. The YES must be a certificate for the query with the number `_query`, counted from 1. This query asks one
-/// box question, or two if it is about equality. If the configuration obeys the premise of one of these questions at every
+/// Changes nothing and allocates nothing. Its contract says what a YES means for any configuration, even one that is a function
+/// on all cells of Z^d. The YES must be a certificate for the query with the number `_query`, counted from 1. This query asks
+/// one box question, or two if it is about equality. If the configuration obeys the premise of one of these questions at every
 /// position of Z^d, the goal of this question doesn't hold at `_place`.
 pub fn lifted<C: Configuration>(
     script: &Script,

@@ -1,9 +1,12 @@
-//! Checks answers to the queries of scripts: which answers are certificates, and what a certificate claims. The check makes no
-//! search and trusts none. A script defines rules, configurations and automata, and asks queries about them.
+//! Checks answers to the queries of scripts. A script defines rules, configurations and automata, and asks queries about them.
+//! A certificate is an answer with all that is needed to check it without a search. The specs say which answers are
+//! certificates, and what a certificate claims. The check makes no search and trusts none. An answer is accepted if it is a
+//! certificate and an output can hold it: its numbers and lists are within the bounds that `dd_certificate` states.
 //!
 //! Some queries are box questions. A box question has a rule, which is called its premise, and a goal: a property of a
 //! position, such as that another rule is broken there. It asks whether no configuration that obeys the premise has the goal at
-//! any position. A query about equality is two box questions, and a query about a conjugacy is four.
+//! any position. A query about equality is two box questions. A query about a conjugacy names two rules and two automata, and
+//! asks whether the automata are inverse maps between the configurations of the rules. It is four box questions.
 #![tactic(auto)]
 
 mod answering;

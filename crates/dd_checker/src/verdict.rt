@@ -5,6 +5,6 @@
 pub enum Verdict {
     /// The answer is a certificate for its query, so what it claims is true.
     Accepted,
-    /// The answer is not a certificate. The query may have another answer, or the same answer with other evidence.
+    /// The answer is not a certificate. Another answer, or the same answer with other evidence, may be one.
     Rejected,
 }

@@ -42,7 +42,7 @@ pub enum Gate {
 }
 
 /// Inputs and gates. The inputs are the variables from 1 to `inputs`. The gates are numbered from 0. Gate k has the variable
-/// `inputs + 1 + k`, and its members are over earlier variables.
+/// `inputs + 1 + k`, and its members are signals of earlier variables.
 #[derive(Debug, Drop)]
 pub struct Circuit {
     alloc: Global,

@@ -15,8 +15,8 @@ IsClauseInRange n clause = All (IsLiteralInRange n) clause
 abbrev pub negation : Literal → Literal
 negation l = record { variable = l.variable; positive = not l.positive }
 
--- the literal is true when the variables in the set are true and the others are false: it is positive and its variable is in the set, or it is
--- negative and its variable is not in the set
+-- Whether the literal is true if exactly the variables in the set are true. A positive literal is true if its variable is in the set, and a negative
+-- one if its variable isn't.
 abbrev pub is_true_under : (ℕ → Bool) → Literal → Bool
 is_true_under set l = if l.positive then set l.variable else not (set l.variable)
 

@@ -51,7 +51,7 @@ impl Cnf {
         true
     }
 
-    /// Adds a clause at the end. If memory runs out, the list is unchanged.
+    /// Adds a clause at the end. Its variables must be among the list's. If memory runs out, the list is unchanged.
     pub fn push(&mut self, clause: Clause) -> Result<(), AllocError>
         requires { IsClauseInRange self.old.variables clause }
         ensures variables { self.new.variables ≡ self.old.variables }

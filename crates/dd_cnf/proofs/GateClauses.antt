@@ -1,4 +1,4 @@
--- How the clauses of several gates grow when one more gate is added.
+-- How the clauses of several gates grow when one more gate is added. Gates and their clauses are over the variables of the clause list.
 use Rattle.std.proofs.Common.{◌≡◌, ℕ, suc, ◌+◌, ◌<◌, ◌≤◌, Bool, List, [], ◌∷◌, ◌++◌, map, length, ap, sym, ◌∙◌, arith, get_or, take, drop, length-drop, append_assoc}
 use Rattle.std.proofs.lemmas.List.{append-nil, take_more, take_rest, length-take-le}
 use Rattle.std.proofs.lemmas.List.Elements.{All-cons, All-map, All-take}

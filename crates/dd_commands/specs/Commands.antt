@@ -1,5 +1,5 @@
--- Commands: the tokens that follow the `%` of each. The text of a vector, an edge or a query is a list of tokens. The text of a
--- word is a list of bytes.
+-- The tokens of a command after its `%`. The text of a vector, an edge or a query is a list of tokens. The text of a word is a
+-- list of bytes.
 use Rattle.std.specs.Prelude.{◌≡◌, ℕ, ◌≤◌, List, [], ◌∷◌, ◌++◌, length, map, Bool, true, false, Option, Some, None, codes}
 use Rattle.std.specs.List.{flat_map, list_all}
 use Rattle.dd_commands.specs.Tree.{Word, Mark, Lexeme, Name, Lists, Entry, Vector, Edge, Case, Request, Command}

@@ -4,7 +4,7 @@ pub mod Tree
 pub mod Table
 -- the first words of commands, and their order
 pub mod Heads
--- commands: the tokens that follow the `%` of each
+-- the tokens of a command after its `%`
 pub mod Commands
 -- scripts, and which command is the first that is not well formed
 pub mod Scripts

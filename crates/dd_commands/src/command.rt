@@ -13,7 +13,7 @@ pub enum Entry {
     Negative(Number),
 }
 
-/// A vector: integers in brackets, such as `[3 -1]`. There may be no entries.
+/// A vector: integers in brackets, such as `[3 -1]`. It may be empty.
 #[derive(Debug, Drop)]
 pub struct Vector {
     pub entries: Items<Entry>,

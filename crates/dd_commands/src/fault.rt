@@ -1,11 +1,11 @@
-//! Why a script has no syntax tree.
+//! Why no syntax tree was read.
 ghost use Rattle.std.specs.Prelude.{◌≡◌};
 ghost use Rattle.dd_commands.specs.declared.fault.SyntaxFault.TheVariants.{Memory};
 
 use std::alloc::AllocError;
 use thiserror::Error;
 
-/// Why a script has no syntax tree.
+/// Why no syntax tree was read.
 #[derive(Clone, Copy, Debug, PartialEq, Eq, Error)]
 pub enum SyntaxFault {
     /// The number, from 1, of the first command that is not well formed. It is 0 if some token stands before the first `%`.

@@ -1,7 +1,7 @@
 //! The heads of commands.
 use crate::table::QueryKind;
 
-/// The head of a command: what its first word says it is. Both forms of `topology`, by name and by edges, have the same head.
+/// The head of a command says which command it is. Both forms of `topology`, by name and by edges, have the same head.
 #[derive(Clone, Copy, Debug, PartialEq, Eq)]
 pub enum Head {
     /// `dim`
@@ -26,6 +26,6 @@ pub enum Head {
     Composition,
     /// `conf`
     Configuration,
-    /// The first word of a query of this kind, which the kind's row in the table of queries gives.
+    /// The first word that the table of queries gives for this kind.
     Query(QueryKind),
 }

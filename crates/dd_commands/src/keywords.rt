@@ -53,7 +53,7 @@ impl Head {
         }
     }
 
-    /// The lowest stage of the commands that may follow this one.
+    /// The lowest stage that a command may have if it follows a command with this head.
     pub(crate) fn next_stage(self) -> u32
         ensures { result ≡ next_stage self }
     {

@@ -1,5 +1,7 @@
-//! The syntax trees of scripts and their commands, and how they are read from bytes. A command is a `%`, a first word, and what
-//! follows. Some commands are queries. For each kind of query, a table says what follows the first word.
+//! The syntax trees of scripts and their commands, and how they are read from bytes. Tokens are the lexemes of `dd_written`. A
+//! command is a `%`, a first word, and a body, which is all that follows. The first word determines the head and the stage of
+//! the command. The head says which command it is. The stage is a number: no command may follow one of a higher stage. Some
+//! commands are queries. For each kind of query, a row of a table says what follows the first word.
 #![tactic(auto)]
 
 mod bodies;

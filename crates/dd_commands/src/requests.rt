@@ -27,7 +27,7 @@ fn lists<'a>(from: Source, lists: Lists, tokens: &'a [Lexeme]) -> Read<'a, Items
     }
 }
 
-/// The body of a query of this kind, which is what follows the first word.
+/// The body of a query of this kind.
 pub(crate) fn query<'a>(from: Source, kind: QueryKind, tokens: &'a [Lexeme]) -> Read<'a, Command>
     ensures { Gives (λ x. (x.0, x.1.now)) result (body from.entry.bytes.now (head.Query kind) tokens.now) }
 {

@@ -83,7 +83,7 @@ fn are_whole(part: &[Lexeme]) -> bool
     part.iter().all(|token| !matches!(token, Lexeme::Stray))
 }
 
-/// Reads this part as a command, whose stage must be at least `from`.
+/// Reads this part as a command. Its stage must be at least `from`, and no token of the part may be `Stray`.
 fn command_from(source: Source, from: u32, part: &[Lexeme]) -> Result<Written, ReadFault>
     ensures { Gives (λ x. x) result (written_of source.entry.bytes.now from part.now) }
 {
@@ -128,7 +128,10 @@ fn commands(alloc: Global, bytes: &[u8], tokens: &[Lexeme]) -> Result<Items<Writ
     Ok(commands)
 }
 
-/// The syntax tree of a script of at most `MOST_SCRIPT` bytes, or why it has none.
+/// The syntax tree of a script. There may be at most 1,048,576 bytes.
+///
+/// # Errors
+/// `At` if the bytes have no syntax tree. `Memory` if memory ran out.
 #[tactic(auto, using(crate::proofs::Texts::ascii_text))]
 pub fn read(alloc: Global, bytes: &[u8]) -> Result<Syntax, SyntaxFault>
     requires { length bytes.now ≤ most_script }

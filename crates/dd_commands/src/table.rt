@@ -1,5 +1,5 @@
-//! The table of queries, with a row for each kind. Queries are read and checked by these rows alone, and their words are
-//! resolved by them.
+//! The table of queries, with a row for each kind. The rows alone say how queries are read and checked, and what their words
+//! name.
 ghost use Rattle.std.specs.Prelude.{◌≡◌};
 ghost use Rattle.dd_commands.specs.Table.{row};
 
@@ -47,9 +47,9 @@ pub enum QueryKind {
     Maps,
     /// `conjugate f g X Y`: are f and g inverse maps between the configurations that obey X and those that obey Y?
     Conjugate,
-    /// `forbidden X`: which patterns does the rule forbid?
+    /// `forbidden X`: which fillings of the cells that it reads does the rule forbid?
     Forbidden,
-    /// `minimal X`: which minimal patterns does the rule forbid?
+    /// `minimal X`: which minimal patterns together forbid what the rule forbids?
     Minimal,
     /// `density X [5]`: what is the least density that the rule allows on a strip with these periods?
     Density,

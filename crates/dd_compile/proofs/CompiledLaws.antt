@@ -1,4 +1,4 @@
--- If each leaf of an expansion has its wire, the expansion's signal has the expansion's value, and the expansion's gates are over earlier variables.
+-- If each leaf of an expansion has its wire, the expansion's gates are over earlier variables, and its signal is a signal of the circuit.
 use Rattle.std.proofs.Common.{◌≡◌, ℕ, Bool, true, Option, Some, None, refl, arith}
 use Rattle.std.proofs.lemmas.Bool.{and_parts, leb-true}
 use Rattle.std.specs.Prelude.{nat_le}

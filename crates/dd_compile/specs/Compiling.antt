@@ -33,7 +33,7 @@ all_made (m ∷ ms) n =
     let rest = all_made ms (n + length (m n).gates) in
     record { signals = (m n).signal ∷ rest.signals; gates = (m n).gates ++ rest.gates }
 
--- the gates of a gate's parts, and then the gate itself, which has the next variable
+-- the gates of the parts of an expansion, and then the expansion's own gate, which has the next variable
 abbrev pub then_gate : ℕ → List Gate → Gate → Made
 then_gate n gates g = made_of (signal_of (n + length gates + 1)) (gates ++ g ∷ [])
 

@@ -12,7 +12,7 @@ pub mod ValueGates
 pub mod ValueSignals
 -- the gates of an automaton's value, and what they say wherever they stand
 pub mod Valued
--- the invariants of the recursion over compositions
+-- what the gates of a composition require, and what holds once the gates of the inner values are there
 pub mod composing
 -- the gates of templates, and how they are placed at cells
 pub mod placing

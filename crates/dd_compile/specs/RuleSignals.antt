@@ -1,5 +1,5 @@
 -- The signals of the cells that a rule reads, and what the signal of the rule's gates says. An assignment, `set`, gives variables their truth
--- values. A look-up, `look`, gives cells their symbols.
+-- values. A look-up, `look`, gives cells symbols of the alphabet.
 use Rattle.std.specs.Prelude.{◌≡◌, ◌==◌, ◌&&◌, if◌then◌else◌, ℕ, Bool, true, false, List, Option, Some, None, length, nat_le}
 use Rattle.std.specs.List.{Contains, list_all}
 use Rattle.dd_lattice.specs.{Place.Place, Place.moved, Place.is_in_range, Cells.shifted, declared.position.Cell.Cell}

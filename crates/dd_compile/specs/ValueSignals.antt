@@ -1,5 +1,6 @@
 -- The signals of the cells that an automaton reads, and what the signals of its value say. Common numbers are the dimension, the
--- number of nodes and the size of the alphabet that several rules or automata share.
+-- number of nodes and the size of the alphabet that several rules or automata share. An assignment, `set`, gives variables their
+-- truth values. A look-up, `look`, gives cells symbols of the alphabet.
 use Rattle.std.specs.Prelude.{ℕ, ◌≡◌, ◌<◌, ◌==◌, Bool, true, List, Some, length, map, slice_get}
 use Rattle.std.specs.List.{Contains, list_all}
 use Rattle.dd_lattice.specs.{Cells.shifted, declared.position.Cell.Cell}
@@ -35,7 +36,8 @@ abbrev pub TellsCells : (ℕ → Bool) → Wiring → List Cell → Cell → Loo
 TellsCells set w ds c look =
     (d : Cell) (s : ℕ) (x : Signal) → Contains ds d → wire_of w (shifted c.position d) s ≡ Some x → signal_value set x ≡ is_symbol s (look (shifted c.position d))
 
--- the cases fit some common numbers, and each cell that their rules read at the cell `at` has its signals
+-- the cases fit some common numbers, the node of the cell `at` is one of the common nodes, and each cell that the rules of the cases read at `at` has
+-- its signals
 pub record AreCasesWired (n : ℕ) (w : Wiring) (c : Cases) (at : Cell) : Type 0 where
   pub setting : CommonNumbers
   pub fit : cases_fit setting c.cases c.otherwise ≡ true

@@ -9,9 +9,9 @@ use Rattle.dd_circuit.specs.Circuits.{IsSignal, AreGates, agrees}
 use Rattle.dd_compile.specs.{Wiring.Wiring, Compiling.AllMade, ValueGates.value_made}
 use Rattle.dd_compile.specs.ValueSignals.{TellsCells, SaysWhich, are_wired_there}
 
--- These gates, which come after n variables, are over earlier variables, and there is a signal for each of k symbols. Under every assignment that
--- gives the gates their values and tells the symbols that the automaton reads at the cell `at`, each signal says whether its symbol is the value
--- there.
+-- These gates come after n variables, and each of them is over earlier variables. There is a signal for each of k symbols. Under every assignment
+-- that gives the gates their values and tells the symbols that the automaton reads at the cell `at`, each signal says whether its symbol is the
+-- value there.
 pub record IsMadeValue (n k : ℕ) (f : Automaton) (w : Wiring) (at : Cell) (m : AllMade) : Type 0 where
   pub gates : AreGates n m.gates
   pub one_each : length m.signals ≡ k

@@ -30,9 +30,10 @@ fn says_near(automaton: &Automaton)
     }
 }
 
-/// Does nothing. Its contract is the law for each cell at least 2048 from the border of the range of positions: however many
-/// variables come before the gates of the automaton's value, each gate is over earlier variables, and the signals of the value
-/// say which symbol the value is.
+/// Does nothing. Its contract is the law for each cell at least 2048 from the border of the range of positions. Any number of
+/// variables may come before the gates of the automaton's value. If each cell that the automaton reads there has a signal of
+/// these variables for each symbol, then each gate is over earlier variables, and the signals of the value say which symbol the
+/// value is.
 pub fn says_its_value(automaton: &Automaton)
     ensures { SaysItsValue automaton.now }
 {

@@ -1,4 +1,4 @@
--- If a box suffices, so do all larger boxes, and no configuration shows the goal.
+-- The law of the three answers. It rests on the law of one box: if a radius suffices, all larger ones do, and no configuration shows the goal.
 use Rattle.std.proofs.Common.{◌≡◌, ℕ, ◌≤◌, ◌||◌, ◌&&◌, Bool, true, false, refl, subst, arith}
 use Rattle.std.specs.Prelude.{max, nat_lt}
 use Rattle.dd_derivation.specs.Derivations.{IsRefuting}
@@ -22,7 +22,8 @@ module _ (x : LocalRule) (g : GoalOf) (each : (radius : ℕ) → OneBox x g radi
   reaches : (least n : ℕ) → IsLeastRadius g least → least ≤ n → Reaches g n
   reaches least n is le = ((each n).radius least is).1 le
 
-  -- a box that suffices and a configuration that shows the goal exclude each other: the configuration gives the box an admissible filling
+  -- a box that suffices and a configuration that shows the goal exclude each other: the configuration's symbols in the box would be an admissible
+  -- filling with the goal at the origin
   never_both : (n p : ℕ) → Reaches g n → Suffices x g n → IsShown x g p → ⊥
   never_both n p reach suffices shown =
       let tile = shown.2.0 in

@@ -37,7 +37,8 @@ pub record AsksPeriods (x : LocalRule) (g : GoalOf) (p : Periods) : Type 0 where
   pub periods : ArePeriods x.dimension p
   pub few : question_clauses x g (tile_volume p) ≤ most_clauses
 
--- the least radius that suffices, among those whose boxes hold what the goal reads; else the first periods that show the goal; else unknown
+-- The decision within the limits n on radii and p on periods. The first radius tried is the least one whose box holds what the goal reads. The
+-- decision is the least radius tried that suffices, else the first periods that show the goal, else unknown.
 abbrev pub IsDecided : LocalRule → GoalOf → ℕ → ℕ → Decision → Type 0
 IsDecided x g n p decision =
     (least : ℕ) × IsLeastRadius g least

@@ -3,14 +3,17 @@
 //! premise has the goal at any position.
 //!
 //! The search goes through boxes of growing radius, until one has no admissible filling with the goal at the origin: its radius
-//! suffices. (A filling is admissible if the premise is true at each of its cells where all that the premise reads has a symbol.)
-//! If none of the radii that may be tried suffices, the search goes through tori of growing volume, each given by its periods,
-//! until a configuration of these periods obeys the premise and has the goal.
+//! suffices. (A filling gives each cell of the box a symbol that the cell's node allows. It is admissible if the premise is
+//! true at each of its cells where all that the premise reads has a symbol.)
 //!
-//! Each box and each torus becomes a list of clauses. They can be satisfied exactly when the box has such a filling, or the
-//! torus such a configuration. The engines of a roster, a list of engines, are asked about the clauses first. If none of them
-//! makes a right proposal, a solver decides. An engine is any value that proposes an assignment or a refutation. It is sound if
-//! all that it proposes is right.
+//! If none of the radii that may be tried suffices, the search goes through tori of growing volume. A torus is given by its
+//! periods, which include a shear. A configuration shows the goal if it obeys the premise and has the goal at the origin.
+//! Periods show the goal if some configuration with these periods shows it. The search stops at the first such periods.
+//!
+//! Each box and each torus becomes a list of clauses. The clauses can be satisfied exactly when the box has an admissible
+//! filling with the goal at the origin, or the torus has a configuration that shows the goal. The engines of a roster, a list
+//! of engines, are asked about the clauses first. If none of them makes a right proposal, a solver decides. An engine is any
+//! value that proposes an assignment or a refutation. It is sound if all that it proposes is right.
 #![tactic(auto)]
 
 mod decision;

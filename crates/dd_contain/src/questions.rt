@@ -1,4 +1,6 @@
-//! Box questions as the search asks them: each box and each torus becomes a list of clauses to be satisfied or refuted.
+//! Box questions as the search asks them: each box and each torus becomes a list of clauses to be satisfied or refuted. The
+//! solver has two styles, which differ in how it chooses the next variable. In the broad style, a conflict counts for a long
+//! time. In the focused style, the latest conflicts count most.
 ghost use Rattle.std.specs.Prelude.{◌≡◌, ◌↔◌, ◌≤◌, true, IfOk, IfSome};
 ghost use Rattle.dd_boxes.specs.Boxes.{Suffices};
 ghost use Rattle.dd_boxes.specs.Goals.{IsGoalFor};
@@ -69,8 +71,8 @@ fn style_of(at: &Periods) -> Style {
     }
 }
 
-/// The style of search for a box. It is broad, except for the question whether two automata agree, which depends on the
-/// automata's gates more than on the cells.
+/// The style of search for a box. It is broad, unless the goal is that two automata differ. A question with this goal depends
+/// more on the automata's gates, the variables that stand for parts of their formulas, than on the cells.
 fn box_style(goal: &Goal) -> Style {
     match goal {
         Goal::Differ(_, _) => Style::Focused,
@@ -127,7 +129,7 @@ impl<'a> Questions for BoxQuestion<'a> {
         match outcome(self.alloc, &cnf, style_of(at), roster)? {
             Outcome::Found(found) => {
                 let periodic = read_torus(self.alloc, self.premise, periods, at.shear, &found)?;
-                // This call tells the proof what the type guarantees.
+                // This call tells the proof what the type of the configuration guarantees.
                 let _symbols = periodic.symbols();
                 Ok(Some(periodic))
             }
@@ -140,7 +142,7 @@ impl<'a> Questions for BoxQuestion<'a> {
 /// radius of further boxes is at most the limit. Periods are at most their limit. The answer is:
 /// - YES, with the least of these radii that suffices;
 /// - otherwise NO, with a configuration that obeys the premise and has the goal at the origin. Its periods and shear come first
-///   among those of all such configurations, ordered by volume and then lexicographically;
+///   among those of all such configurations within the limit, ordered by volume, then by x, y, z and the shear;
 /// - otherwise unknown.
 ///
 /// Each list of clauses goes to the roster first, without a copy. If no engine proposes a right answer, the solver decides.

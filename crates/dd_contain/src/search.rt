@@ -1,4 +1,4 @@
-//! The search for the least radius tried that suffices, and then for the first periods that show the goal.
+//! The search for the least radius tried that suffices and, if none does, for the first periods that show the goal.
 ghost use Rattle.std.specs.Prelude.{◌≡◌, ◌≤◌, ◌<◌, ℕ, List, length, IfOk, OnOk, MatchOption};
 ghost use Rattle.dd_derivation.specs.declared.step.Step.{Step as AnyStep};
 ghost use Rattle.dd_pattern.specs.declared.periods.Periods.{Periods as AnyPeriods};

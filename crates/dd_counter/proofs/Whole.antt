@@ -41,7 +41,7 @@ pub shown : (x : LocalRule) (p : Periods) (ws : List ℕ) (below : ℕ) (new : C
     ShowsWeights new.clauses x p ws below
 shown x p ws below new rule ok same exact = subst (λ k. ShowsWeights k.clauses x p ws below) (sym exact) (weight_shows x p ws below rule ok same)
 
--- without a signal there is no clause
+-- without a signal no clause is added
 pub no_refusal : (signals : List Signal) (below at : ℕ) (clauses : List (List Literal)) → at ≡ below - 1 → length signals ≤ at → clauses ≡ clauses ++ last_refused below signals
 no_refusal signals below at clauses is past =
     sym (append-nil clauses) ∙ ap (λ r. clauses ++ refusal_of r) (sym (slice_get_past signals (below - 1) (subst (λ k. length signals ≤ k) is past)))

@@ -1,5 +1,6 @@
 -- The counter: gates that say how much the first cells weigh. Each cell has a row of signals. The signal with the index t, counted from 0, says that
--- the cells up to and including this one weigh more than t. `ws` lists the weights of the symbols.
+-- the cells up to and including this one weigh more than t. `ws` lists the weights of the symbols. An input is a variable that says that a cell has a
+-- symbol.
 use Rattle.std.specs.Prelude.{ℕ, zero, suc, ◌+◌, ◌-◌, Bool, true, false, nat_lt, List, [], ◌∷◌, ◌++◌, map, length, Option, Some, None, slice_get, slice_index}
 use Rattle.std.specs.List.{range_with_len}
 use Rattle.dd_clause.specs.{declared.clause.Literal.Literal, Clauses.ClauseList}

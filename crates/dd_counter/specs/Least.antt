@@ -9,7 +9,7 @@ use Rattle.dd_counter.specs.declared.least.LeastWeight.{LeastWeight}
 use Rattle.dd_counter.specs.declared.least.LeastWeight.TheVariants.{Least, Nothing}
 use Rattle.dd_counter.specs.Weights.{weight_problem}
 
--- a living configuration: it has these periods and this shear, and lives in the rule's subshift
+-- a living configuration: it has these periods and this shear, has only symbols that its nodes allow, and lives in the rule's subshift
 abbrev pub IsLiving : LocalRule → Periods → Tile → Type 0
 IsLiving x p t = HasPeriods p t × IsWitness x always t
 
@@ -22,7 +22,7 @@ pub record LeastOn (x : LocalRule) (p : Periods) (ws : List ℕ) (w : ℕ) : Typ
 abbrev pub NoneOn : LocalRule → Periods → Type 0
 NoneOn x p = (t : Tile) → IsLiving x p t → ⊥
 
--- the steps refute the clauses that ask for less than w (for any weight if w is 0), and the numbers of clauses and steps are in range
+-- the steps refute the clauses that ask for less than w (for any weight if w is 0), and the numbers of variables, clauses and steps are in range
 pub record IsRefutedBelow (x : LocalRule) (p : Periods) (ws : List ℕ) (w : ℕ) (steps : List Step) : Type 0 where
   pub refuting : IsRefuting (weight_problem x p ws w) steps
   pub numbered : AreNumbered (weight_problem x p ws w) steps

@@ -11,9 +11,8 @@ use Rattle.dd_counter.specs.Counter.{weighed}
 abbrev pub weight_problem : LocalRule → Periods → List ℕ → ℕ → ClauseList
 weight_problem x periods ws below = weighed (torus_problem x always periods) ws below (periods_volume periods * x.nodes)
 
--- An upper bound for the number of clauses of `weight_problem`. It counts the clauses of the torus, and the last clause. For
--- each cell and each t less than `below`, it also counts, for each symbol, the three clauses of an And gate, and then the clauses
--- of an Or gate over these And gates.
+-- An upper bound for the number of clauses of `weight_problem`. It counts the clauses of the torus, and the last clause. For each cell and each t
+-- less than `below`, it also counts three clauses for the And gate of each symbol, and the clauses of one Or gate over these And gates.
 abbrev pub weight_count : LocalRule → Periods → List ℕ → ℕ → ℕ
 weight_count x periods ws below =
     question_clauses x always (periods_volume periods) + periods_volume periods * x.nodes * (below * suc (4 * length ws)) + 1
@@ -23,7 +22,7 @@ abbrev pub IsLight : ℕ → List ℕ → Tile → Type 0
 IsLight zero ws t = Unit {0}
 IsLight (suc b) ws t = total_weight ws t.symbols < suc b
 
--- a configuration of these periods that lives in the rule's subshift and is light
+-- a living configuration (see `IsLiving` in `Least`) that is light
 pub record IsLightWitness (x : LocalRule) (periods : Periods) (ws : List ℕ) (below : ℕ) (t : Tile) : Type 0 where
   pub along : HasPeriods periods t
   pub witness : IsWitness x always t

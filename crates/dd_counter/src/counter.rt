@@ -41,10 +41,10 @@ fn input_of(number: u32, symbols: u32, symbol: u32) -> Signal
     }
 }
 
-/// Appends to `members` the signal for one symbol of a cell. The signal says that the cell has this symbol, and that the cells up
-/// to and including this one weigh more than `most`. The symbol weighs `weight`. The signal `from` says that the cell has the
-/// symbol, and `before` is the row of the cell before. If there is no such row, and the symbol alone doesn't weigh enough,
-/// nothing is appended.
+/// Appends to `members` the signal for one symbol of a cell. The signal says that the cell has this symbol, and that the cells
+/// up to and including this one weigh more than `most`. The symbol weighs `weight`. The signal `from` says that the cell has
+/// the symbol, and `before` is the row of the cell before. For the first cell, it is empty. If the symbol alone weighs more
+/// than `most`, the signal is `from`. Otherwise it is that of a new gate or, for the first cell, nothing is appended.
 fn push_member(
     alloc: Global,
     cnf: &mut Cnf,

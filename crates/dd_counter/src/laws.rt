@@ -6,11 +6,11 @@ ghost use Rattle.dd_counter.specs.Laws.{SaysWeights};
 
 use dd_formula::Rule;
 
-/// Does nothing. Its contract is about the configurations of Z^d with given periods that live in the rule's subshift. If the
-/// clauses without a bound are refuted, there is no such configuration. Suppose that some such configuration weighs `w`. If `w`
-/// is 0, or the clauses that ask for a weight below `w` are refuted, then `w` is the least weight. There is at most one least
-/// weight, and there is none if there is no such configuration. The contract also says what the last clause is, and bounds the
-/// number of clauses.
+/// Does nothing. Its contract is about the living configurations with given periods, and about the clauses of `weight_clauses`.
+/// If the clauses without a bound are refuted, there is no living configuration. Suppose that some living configuration weighs
+/// `w`. If `w` is 0, or the clauses that ask for a weight below `w` are refuted, then `w` is the least weight. There is at most
+/// one least weight, and there is none if there is no living configuration. The contract also says what the last clause is, and
+/// bounds the number of clauses.
 pub fn least_law(rule: &Rule)
     ensures { (p : AnyPeriods) (ws : List ℕ) → AreTorusPeriods rule.now.dimension rule.now.nodes p → length ws ≡ rule.now.symbols → SaysWeights rule.now p ws }
 {

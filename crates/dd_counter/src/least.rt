@@ -34,17 +34,17 @@ const MOST_LOCAL_CLAUSES: u64 = 200_000;
 /// above the least weight.
 const NEAR: u64 = 32;
 
-/// The least weight of the configurations of given periods that live in a rule's subshift.
+/// The least weight of the living configurations with given periods.
 #[derive(Debug, Drop)]
 pub enum LeastWeight {
-    /// The least weight, and a configuration that has it. The steps refute the clauses that ask for a smaller weight. There are
-    /// no steps if the weight is 0.
+    /// The least weight, and a living configuration that has it. The steps refute the clauses that ask for a smaller weight
+    /// (see `weight_clauses`). There are no steps if the weight is 0.
     Least {
         weight: u64,
         periodic: Periodic,
         steps: Items<Step>,
     },
-    /// No configuration of these periods lives in the subshift. The steps refute the clauses that ask for one.
+    /// There is no living configuration. The steps refute the clauses that ask for one.
     Nothing {
         steps: Items<Step>,
     },
@@ -101,8 +101,8 @@ fn search_below(
     }
 }
 
-/// A living configuration: the one that a local search finds from `start`, usually a lighter one. If the rule takes more than
-/// `MOST_LOCAL_CLAUSES` clauses on the torus, it is `start` itself.
+/// The living configuration that a local search finds from `start`, usually a lighter one. If the rule takes more than
+/// `MOST_LOCAL_CLAUSES` clauses on the torus, there is no such search, and the result is `start` itself.
 fn lightened(
     alloc: Global,
     rule: &Rule,
@@ -124,10 +124,10 @@ fn lightened(
     }
 }
 
-/// The descent: goes from the living configuration `start` to one that weighs at most `NEAR` more than the least weight. After a
-/// local search, each search asks for a configuration that is lighter by more than `step` than the last one found. No living
-/// configuration weighs less than `refuted`. If even the weight `refuted` isn't that small, the search asks for a configuration
-/// of the weight `refuted` instead. A success doubles the step, and a refutation sets it back to `NEAR`.
+/// The descent: goes from the living configuration `start` to one that weighs at most `NEAR` more than the least weight. After
+/// a local search, each search asks for a configuration that is lighter by more than `step` than the last one found. No living
+/// configuration weighs less than `refuted`. If the search would ask for less than that, it asks for the weight `refuted`
+/// instead. A success doubles the step, and a refutation sets it back to `NEAR`.
 fn descended(
     alloc: Global,
     rule: &Rule,
@@ -165,8 +165,8 @@ fn descended(
     Ok(best)
 }
 
-/// The least weight of a configuration with these periods and shear 0 that lives in the rule's subshift, or `Nothing` if there is
-/// no such configuration. The weight is that of one fundamental box, and the symbol `s` weighs `weights[s]`.
+/// The least weight of a living configuration with these periods and shear 0, or `Nothing` if there is no such configuration.
+/// The weight is that of one fundamental box, and the symbol `s` weighs `weights[s]`.
 pub fn least_weight(
     alloc: Global,
     rule: &Rule,

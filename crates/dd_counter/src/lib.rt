@@ -1,7 +1,9 @@
 //! Configurations of least weight on a torus: the clauses that ask for a weight below a bound, and the search for the least
 //! weight. A torus stands for the configurations with given periods. The weight of a configuration is the sum of the weights of
-//! the symbols in one fundamental box, the box that repeats. A configuration lives in a rule's subshift if it obeys the rule at
-//! every cell. A living configuration has the torus's periods and lives in the rule's subshift.
+//! the symbols in one fundamental box, the box that repeats. The cells of this box are numbered from 0 in cell order: by z,
+//! then y, then x, then the node. A configuration lives in a rule's subshift if it obeys the rule at every cell. A living
+//! configuration lives in the rule's subshift, has the torus's periods, and gives each cell a symbol that the cell's node
+//! allows.
 #![tactic(auto)]
 
 mod counter;

@@ -6,8 +6,7 @@ ghost use Rattle.dd_counter.specs.Least.{IsLiving};
 use dd_formula::{Membership, Rule, fits, has_allowed};
 use dd_pattern::Periodic;
 
-/// The configuration with these periods, shear 0 and these symbols. `None` if it doesn't live in
-/// the rule's subshift.
+/// The living configuration with these periods, shear 0 and these symbols, or `None` if there is none.
 pub(crate) fn living(rule: &Rule, periods: [u32; 3], symbols: Vec<u32>) -> Option<Periodic>
     ensures { MatchOption result ⊤ (IsLiving rule.now (periods_of periods 0)) }
 {

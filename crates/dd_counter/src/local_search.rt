@@ -4,8 +4,8 @@
 //! rule reads there gets another symbol. The longer the rule stays false at a cell, the more that cell counts: its penalty
 //! grows (Morris 1993), as in NuMVC (Cai, Su, Luo and Sattar 2013).
 //!
-//! No contract depends on this search: its result is checked afterwards. No invariant says that the indices kept here are within
-//! their lists. So the code tests each index. These tests never fail.
+//! No contract depends on this search: its result is checked afterwards. No invariant says that the indices kept here are
+//! within their lists. So the code tests each index, even where the test can't fail.
 use crate::torus_rule::TorusRule;
 use dd_formula::Rule;
 use std::alloc::{AllocError, Global};
@@ -30,7 +30,7 @@ struct Change {
     symbol: u32,
 }
 
-/// The symbols of a torus while they are changed.
+/// The state of a local search on a torus.
 #[derive(Drop)]
 pub(crate) struct LocalSearch<'a> {
     rule: &'a Rule,
@@ -107,8 +107,9 @@ impl<'a> LocalSearch<'a> {
         Ok(best)
     }
 
-    /// Makes the best change towards a weight below `least`, if there is one. Returns false if the rule is true at each cell, and
-    /// neither this step nor the one before it changed anything.
+    /// Makes the best change to a lighter symbol or, once the weight is below `least`, the best repair. If there is none,
+    /// nothing changes. Returns false if the rule is true at each cell, and neither this step nor the one before it changed
+    /// anything.
     fn make_step(&mut self, least: u64) -> Result<bool, AllocError> {
         self.step = self.step.saturating_add(1);
         let change = if self.weight >= least {
@@ -175,7 +176,8 @@ impl<'a> LocalSearch<'a> {
         best
     }
 
-    /// The best change of a cell that the rule reads at the worst cell, among those that weren't changed in the previous step.
+    /// The best repair: a change of a cell that the rule reads at the worst cell (see `worst`). Cells that were changed in the
+    /// previous step are left out.
     fn best_repair(&mut self) -> Option<Change> {
         let torus = self.torus;
         let worst = self.worst()?;

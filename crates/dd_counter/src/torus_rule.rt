@@ -8,8 +8,8 @@ use dd_numbered::{Numbered, Numbers};
 use dd_pattern::{Periodic, Reads};
 use std::alloc::{AllocError, Global};
 
-/// Numbers cells that are given relative to the position `at`. The number of such a cell is its symbol in `numbers`, where the
-/// symbol of each cell is the cell's number (see `numbered_box`).
+/// Numbers cells that are given relative to the position `at`. The symbol of a cell in the configuration `numbers` is the
+/// cell's number (see `numbered_box`).
 #[derive(Drop)]
 struct Around<'a, R> {
     numbers: &'a R,
@@ -57,14 +57,15 @@ pub(crate) struct TorusRule {
     cells: Vec<CellRule>,
 }
 
-/// The cost of evaluating a formula that takes this many clauses. Usually only a small part of it is looked at.
+/// The cost of evaluating a formula whose encoding has this many clauses. Usually only a small part of the formula is looked
+/// at.
 fn cost_of(clauses: u64) -> u64 {
     1 + clauses / 32
 }
 
 impl TorusRule {
-    /// The rule at the cells of this configuration's fundamental box. `None` if the rule takes more than `most` clauses at these
-    /// cells together.
+    /// The rule at the cells of this configuration's fundamental box. `None` if the encoding of the rule has more than `most`
+    /// clauses at these cells together, or if the configuration has more nodes than the rule.
     pub(crate) fn new(
         alloc: Global,
         rule: &Rule,

@@ -14,10 +14,10 @@ use dd_formula::Rule;
 use dd_problem::torus_clauses;
 use std::alloc::{AllocError, Global};
 
-/// The clauses that ask for a configuration that lives in the rule's subshift and has these periods and shear 0, so that it
-/// repeats along each axis. If `below` is at least 1, its fundamental box has to weigh less than `below`. The symbol `s` weighs
-/// `weights[s]`. The clauses of the torus come first. Those of a sequential counter follow (Sinz, 2005; with weights:
-/// Hölldobler, Manthey and Steinke, 2012).
+/// The clauses that ask for a living configuration with these periods and shear 0, so that it repeats along each axis. If
+/// `below` is at least 1, its fundamental box has to weigh less than `below`. The symbol `s` weighs `weights[s]`. The clauses
+/// of the torus come first. Those of a sequential counter follow (Sinz, 2005; with weights: Hölldobler, Manthey and Steinke,
+/// 2012).
 ///
 /// # Errors
 /// `AllocError` if memory ran out.

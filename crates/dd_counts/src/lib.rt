@@ -1,6 +1,6 @@
 //! How much work a question takes: the number of its clauses, of its patterns, and of the states of its transfer graph. (The
-//! module `rules` says what patterns and transfer graphs are.) A call with a `limit` cuts its count off: if the count is greater
-//! than `limit`, it returns `limit + 1`. Each limit must be below 2^31.
+//! module `rules` says what patterns and transfer graphs are.) A call with a `limit` cuts its count off: if the count is
+//! greater than `limit`, the call returns `limit + 1`. Each limit must be below 2^31.
 #![tactic(auto)]
 
 mod clauses;

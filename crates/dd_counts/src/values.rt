@@ -1,4 +1,6 @@
-//! How many clauses encode the values of automata, which are the symbols that they give to cells.
+//! How many clauses encode the values of automata, which are the symbols that they give to cells. An automaton by cases gives
+//! each cell the symbol of the first true case, which is the first case whose rule is true there. If no case is true, it gives
+//! the default symbol.
 ghost use Rattle.std.specs.Prelude.{◌≡◌, ◌≤◌, ◌^◌, ◌<◌, IfOk, map};
 ghost use Rattle.dd_expansion.specs.Leaves.{total};
 ghost use Rattle.dd_formula.specs.Automata.{HasNode, HaveNode, HasCells, HasCaseNode};
@@ -81,8 +83,8 @@ fn value_clauses_from(
     Ok(sum)
 }
 
-/// The number of clauses that say that two automata differ at a node, or `limit + 1` if it is greater than `limit`. They are the
-/// clauses of both values, of a gate over two signals for each symbol, and of a gate over all these gates.
+/// The number of clauses that say that two automata differ at a node, or `limit + 1` if it is greater than `limit`. The clauses
+/// encode both values, for each symbol a gate with two inputs, and one gate over all these gates.
 fn differ_at(
     alloc: Global,
     first: &Automaton,

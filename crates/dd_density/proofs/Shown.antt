@@ -10,7 +10,7 @@ use Rattle.dd_density.proofs.Fractions.{SameFraction, lowest_same}
 same_state : (a b : ℕ) → Some a ≡ Some b → a ≡ b
 same_state a b h = cc
 
--- at most one edge leaves a state by a slice
+-- at most one edge leaves a state by a slice, so it is enough to test this edge
 pub rise_along : (g : Transfer) (m l : ℕ) (ps : List ℤ) (u t next weight : ℕ) (b : Bool) → next_of g u t ≡ Some next → weight ≡ weight_at g t →
     (IsTrue b ↔ ((potential_of ps next -ℤ potential_of ps u) ≤ℤ (pos (l * weight) -ℤ pos m))) → IsTrue b ↔ IsRiseAlong g m l ps u t
 rise_along g m l ps u t next weight b here heavy said = (

@@ -8,9 +8,12 @@ use crate::strips::{graph_of, no_weights};
 use dd_formula::Rule;
 use std::alloc::{AllocError, Global};
 
-/// Whether a walk and potentials certify that `numerator / denominator`, in lowest terms, is the least density of the strip
-/// with the periods `strip` along y and z. The walk is a list of states of the transfer graph. There has to be one potential
-/// for each state of the graph. The symbol `s` has the weight `weights[s]`.
+/// Whether `numerator / denominator` is in lowest terms, and a closed walk and potentials certify that it is the least density
+/// of the strip with the periods `strip` along y and z. The walk is a list of states of the transfer graph. A certificate has
+/// one potential for each state of the graph. The symbol `s` has the weight `weights[s]`.
+///
+/// # Errors
+/// `AllocError` if memory ran out.
 pub fn check_density(
     alloc: Global,
     rule: &Rule,
@@ -32,7 +35,10 @@ pub fn check_density(
 }
 
 /// Whether there is a rank for each state of the transfer graph, and the rank falls along each edge. If so, no configuration
-/// lives on the strip.
+/// lives on the strip with the periods `strip` along y and z.
+///
+/// # Errors
+/// `AllocError` if memory ran out.
 pub fn check_empty(
     alloc: Global,
     rule: &Rule,

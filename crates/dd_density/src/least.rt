@@ -17,6 +17,9 @@ use std::alloc::{AllocError, Global};
 /// configurations may have any period. The answer is `Empty` if no configuration lives on the strip. The symbol `s` has the
 /// weight `weights[s]`. Each number of the answer is at most 2^40 in absolute value. The walk has at most as many states as
 /// the transfer graph.
+///
+/// # Errors
+/// `AllocError` if memory ran out.
 pub fn least_density(
     alloc: Global,
     rule: &Rule,

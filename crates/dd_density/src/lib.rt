@@ -1,8 +1,17 @@
 //! The least density of the configurations that live on a strip, with its certificate, and the check of such certificates. A
-//! configuration lives on the strip if it has the strip's periods along y and z, any period along x and no shear, and obeys
-//! the rule everywhere. Each symbol has a weight, and the density of a configuration is its weight per position. The
-//! certificate is a closed walk of the transfer graph (see `dd_transfer`) with potentials for the graph's states. If no
-//! configuration lives on the strip, the certificate consists of ranks for the states.
+//! strip has periods along y and z, and no end along x. A slice consists of the strip's cells with one value of x. A
+//! configuration lives on the strip if it has the strip's periods along y and z, any period along x and no shear, and obeys the
+//! rule everywhere. Each symbol has a weight, and the density of a configuration is its weight per position.
+//!
+//! The certificate is a closed walk of the transfer graph (see `dd_transfer`) with a potential for each state of the graph. The
+//! mean of a closed walk is its weight divided by its number of edges. The density of the walk is this mean divided by the
+//! number of positions in a slice. Let m / l be the mean in lowest terms. Along each edge of weight w, the potential rises by
+//! at most l * w - m. If no configuration lives on the strip, the certificate is a rank for each state. The rank falls along
+//! each edge.
+//!
+//! A call needs periods from 1 to 64, and a period of 1 along each axis beyond the rule's dimension. There is one weight for
+//! each symbol, and it is at most 1,000. The transfer graph must have at most 4,096 states and at most 131,072 windows. A
+//! window is a state followed by one more slice.
 #![tactic(auto)]
 
 mod answer;

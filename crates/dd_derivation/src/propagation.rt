@@ -17,7 +17,7 @@ use dd_clause::Literal;
 pub enum Finding {
     /// All of its literals are false.
     Falsified,
-    /// All of its literals but this one are false, so this one has to be true.
+    /// All of its literals but this one are false, and this one has no value yet. So it has to be true.
     Forced(Literal),
     /// Nothing: two different literals are not false, or the only one that is not false is true already.
     Open,
@@ -94,8 +94,8 @@ impl<'a> FalseLiterals for After<'a> {
     ghost is_false = { λ a. marks_of.is_false a.marks.now a.step (literals_of a.known.now a.hints.now) };
 
     /// A variable out of range has no mark. Such a variable occurs only in the clauses of wrong steps, and `check_step` allows
-    /// earlier steps to be wrong. The first hinted clause that contains the variable forced the literal in which the variable
-    /// occurs there. So the negation of this literal is false.
+    /// earlier steps to be wrong. The variable has no value until a hinted clause contains it. So the first such clause forced
+    /// the literal of this variable that it contains. The negation of this literal is false.
     fn is_false(&self, literal: Literal) -> bool {
         let variable = literal.variable as usize;
         if variable >= 1 && variable <= self.marks.len() {

@@ -47,7 +47,8 @@ impl Marks {
     }
 }
 
-/// The number of the last step. First the clauses are numbered, from 1, and then the steps.
+/// The number of the last step, or of the last clause if there are no steps. First the clauses are numbered, from 1, and then
+/// the steps.
 pub fn last_number(cnf: &Cnf, steps: &[Step]) -> u64
     ensures value { result ≡ length cnf.now.clauses + length steps.now }
     ensures few { length cnf.now.clauses + length steps.now ≤ 2 ^ 64 - 1 }

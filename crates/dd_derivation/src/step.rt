@@ -1,11 +1,11 @@
-//! What a search returns: an assignment, or a derivation of the empty clause that anyone can check.
+//! What a search returns: an assignment, or a refutation, which anyone can check.
 use dd_clause::{Assignment, Clause};
 use dd_values::Items;
 
 /// A clause that follows from clauses before it by unit propagation along its hints.
 ///
-/// The C clauses of a list have the numbers 1 to C, and the steps after them have the numbers from C + 1 on. A step refers to its
-/// hints and to the clauses that it deletes by number. No later step may use a deleted clause as a hint.
+/// The C clauses of a list have the numbers 1 to C, and the steps after them have the numbers from C + 1 on. By these numbers,
+/// a step names its hints and the clauses that it deletes. No later step may use a deleted clause as a hint.
 ///
 /// Proofs whose clauses follow by unit propagation are due to Goldberg and Novikov (2003). The hints are those of the LRAT
 /// format of Cruz-Filipe, Heule, Hunt, Kaufmann and Schneider-Kamp (2017).
@@ -14,10 +14,11 @@ pub struct Step {
     /// The clause that follows.
     pub clause: Clause,
     /// The numbers of the clauses that show that `clause` follows. Its literals are assumed to be false. Each hinted clause but
-    /// the last then becomes unit in turn: all of its literals but one are false, and that one is made true. In the last hinted
-    /// clause, all literals are then false.
+    /// the last then becomes unit in turn: all of its literals but one are false, and that one has no value yet and is made
+    /// true. In the last hinted clause, all literals are then false.
     pub hints: Items<u64>,
-    /// The numbers of the clauses that this step deletes: no later step may use them as hints.
+    /// The numbers of the clauses that this step deletes. Each of these clauses must be alive, and is named once. No later step
+    /// may use it as a hint.
     pub deletes: Items<u64>,
 }
 

@@ -1,5 +1,6 @@
--- The result of a run, over the least common denominator, is a certificate: the columns meet the rows, the duals sum to enough
--- in each column, and both have the same value. Each of these statements about fractions becomes one about whole numbers.
+-- The result of a run, over the least common denominator, is a certificate: the columns meet the rows, the sum of dual times
+-- coefficient is large enough in each column, and the duals are worth exactly column 0. Each of these statements about
+-- fractions becomes one about whole numbers.
 use Rattle.std.proofs.Common.{◌≡◌, ℕ, zero, suc, ◌+◌, ◌*◌, ◌/◌, ◌%◌, ◌<◌, ◌≤◌, List, [], ◌∷◌, ◌++◌, length, get_or, map, drop, slice_index, max, refl, sym, ap, subst, ◌∙◌, arith}
 use Rattle.std.proofs.lemmas.{Int.ints, Nat.Gcd.mod-eq-zero_of_dvd}
 use Rattle.std.proofs.{lemmas.List.get_or-map, lemmas.List.length-map, lemmas.List.get_or-append-add, Math.ListN.get_or-append}
@@ -40,7 +41,7 @@ nonneg_at : (c : ℕ) (xs : List Exact) (j : ℕ) → j < length xs → den_of (
 nonneg_at c xs j p d s =
     subst (λ (n : ℕ). IsOver c (pos n) (fraction_at xs j)) (sym (get_or-map (numerator_over c) xs j zero_of 0 p)) (over_numerator c (fraction_at xs j) s d)
 
--- a fraction of at least 0 in lowest terms, over the denominator c
+-- if z is n and d is q, the fractions z / d and n / q have the same numerator over c
 held_at : (z : ℤ) (n c d q : ℕ) → pos n ≡ z → q ≡ d → unsigned_abs z * (c / d) ≡ n * (c / q)
 held_at z n c d q e f = let s : unsigned_abs z ≡ n = ap unsigned_abs (sym e) in rw (s, f) refl
 

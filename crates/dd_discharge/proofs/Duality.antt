@@ -1,7 +1,7 @@
--- Weak duality: no amounts let each position hold more than the duals are worth. What each position holds is at most the double
--- sum of dual times coefficient times column, since the sum, over the rows, of dual times coefficient is at least 1 in column 0
--- and at least 0 in the other columns. Taken row by row, the double sum is at most the sum of dual times right side, since the
--- duals are at least 0.
+-- Weak duality: no amounts let each position hold more than the duals are worth. What each position holds is the value of
+-- column 0. It is at most the double sum of dual times coefficient times column. This is because the columns are at least 0,
+-- and the sum, over the rows, of dual times coefficient is at least 1 in column 0 and at least 0 in the other columns. Taken
+-- row by row, the double sum is at most the sum of dual times right side, since the rows hold and the duals are at least 0.
 use Rattle.std.proofs.Common.{◌≡◌, ℕ, zero, suc, ◌+◌, ◌*◌, ◌/◌, ◌%◌, ◌<◌, ◌≤◌, List, [], ◌∷◌, length, refl, sym, ap, subst, ◌∙◌, slice_index, arith}
 use Rattle.std.proofs.lemmas.{Nat.div-add-mod', Int.ints}
 use lib.IntN.{ℤ, pos, negsuc, ◌+ℤ◌, ◌*ℤ◌, *ℤ_comm}
@@ -78,7 +78,7 @@ above : (q n t : ℕ) → 1 ≤ n → n ≡ t * q → 0 < t
 above q n zero p e = absurd (omega (arith, p, e))
 above q n (suc t) p e = omega arith
 
--- if t·q·held is at most other·p·t, then q·held is at most other·p
+-- if t is at least 1 and t·q·held is at most other·p·t, then q·held is at most other·p
 unscaled : (p q t other : ℕ) (held : ℤ) → 0 < t → (pos (t * q) *ℤ held) ≤ℤ (pos other *ℤ pos (p * t)) → (held *ℤ pos q) ≤ℤ pos (p * other)
 unscaled p q t other held z h =
     cancel_le (held *ℤ pos q) (pos (p * other)) t z

@@ -118,7 +118,7 @@ joined_past n c i xs x z p e h none =
 pub joined_whole : (n c : ℕ) (xs : List Exact) → c ≤ most_number → fold joined_denominator n xs ≡ fold joined_denominator c (drop (length xs) xs) → Some c ≡ printed (fold joined_denominator n xs)
 joined_whole n c xs p h = let same : c ≡ fold joined_denominator n xs = sym (h ∙ ap (fold joined_denominator c) (drop-length xs)) in printed_some c p ∙ ap printed same
 
--- a fraction is in lowest terms if reducing it doesn't change its denominator
+-- a fraction is in lowest terms exactly when reducing it doesn't change its denominator
 reduced_coprime : (q g d : ℕ) → q * g ≡ d → 0 < d → q ≡ d → g ≡ 1
 reduced_coprime q zero d e p s = absurd (omega (arith, e, p))
 reduced_coprime q (suc zero) d e p s = refl

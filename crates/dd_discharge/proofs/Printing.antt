@@ -27,7 +27,7 @@ common_past xs ys none =
 pub common_some : (xs : List Exact) (n : ℕ) → Some n ≡ printed (common_denominator xs) → 0 < n
 common_some xs n e = subst (λ (m : ℕ). 0 < m) (sym (printed_is (common_denominator xs) n e).0) (joined_above 1 xs (omega arith))
 
--- ---- members of joined lists
+-- ---- members of prefixes and of appended lists
 one_all : {X : Type 0} (P : X → Type 0) (x : X) (xs : List X) → P x → All P xs → All P (x ∷ xs)
 one_all P x xs p h zero d within = p
 one_all P x xs p h (suc k) d within = h k d (omega (arith, within))
@@ -119,7 +119,6 @@ are_printed v xs ys n m g e a b =
 pub unprinted_at : (xs : List Exact) (n : ℕ) → Some n ≡ printed (common_denominator xs) → Any (λ a. most_number < numerator_over n a) xs → HasUnprinted xs
 unprinted_at xs n e h = inr (subst (λ (c : ℕ). Any (λ a. most_number < numerator_over c a) xs) (printed_is (common_denominator xs) n e).0 h)
 
--- a list without its first item
 abbrev nothing : (X : Type 0) → List X
 nothing X = []
 
@@ -127,6 +126,7 @@ take_nothing : {X : Type 0} (n : ℕ) → take n (nothing X) ≡ nothing X
 take_nothing zero = refl
 take_nothing (suc n) = refl
 
+-- the slice from the second item on is the list without its first item
 pub tail_is : {X : Type 0} (xs : List X) → take (length xs - 1) (drop 1 xs) ≡ drop 1 xs
 tail_is {X} [] = take_nothing {X = X} (0 - 1)
 tail_is (x ∷ xs) = ap (λ (n : ℕ). take n xs) (sized (length xs)) ∙ take-length xs

@@ -49,8 +49,8 @@ pub record AreDualsOver (rows : List Row) (columns common : ℕ) (duals : List �
 abbrev pub held_over : Bound → ℕ
 held_over b = b.numerator * (b.common / b.denominator)
 
--- The bound is in lowest terms, and its denominator divides the common denominator. With the amounts, each position holds at
--- least the bound. The duals are worth exactly the bound.
+-- The bound is in lowest terms, and its denominator divides the common denominator, which is at least 1. With the amounts, each
+-- position holds at least the bound. The duals are as in `AreDualsOver`, and worth exactly the bound.
 pub record IsCertifiedBound (rows : List Row) (columns : ℕ) (b : Bound) : Type 0 where
   pub lowest : IsLowest (record { num = pos b.numerator; den = b.denominator })
   pub some : 1 ≤ b.common

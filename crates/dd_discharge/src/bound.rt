@@ -1,8 +1,8 @@
 //! Bounds of a rule along some vectors.
 use dd_values::Items;
 
-/// A bound in lowest terms, with the amounts that positions give and the duals, both over a common denominator. The duals are
-/// factors of the program's rows; they show that no amounts do better.
+/// A bound in lowest terms, with its amounts and its duals over a common denominator. The amounts are those that positions
+/// give. The duals are factors of the program's rows; they show that no amounts do better.
 #[derive(Debug, Drop)]
 pub struct Bound {
     /// The bound's numerator, in lowest terms.

@@ -12,9 +12,15 @@ use dd_lattice::Position;
 use dd_rows::{RowsFault, program_of};
 use std::alloc::{AllocError, Global};
 
-/// Whether the bound is certified for the rule along the vectors. If it is, then the rule's program is within its limits; the
-/// bound is in lowest terms, and its denominator divides the common denominator; with the amounts, each position holds at least
-/// the bound; and the duals are worth exactly the bound, so no amounts do better.
+/// Whether the claimed bound is certified for the rule along the vectors. It is certified exactly when all of these hold:
+///
+/// - The rule's program is within its limits.
+/// - The bound is in lowest terms, and its denominator divides the common denominator, which is at least 1.
+/// - With the amounts, each position holds at least the bound.
+/// - The duals are worth exactly the bound, so no amounts do better.
+///
+/// There is one weight for each symbol. The radius is that of the boxes whose symbols are the patterns. The margin is that of
+/// the program's ground (see `dd_rows`). The claimed numerator and the claimed common denominator must be at most 2^40.
 ///
 /// # Errors
 /// `AllocError` if memory ran out.

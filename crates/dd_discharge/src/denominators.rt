@@ -1,4 +1,5 @@
-//! Fractions over their least common denominator, as a bound has them. A number can be printed if it is at most 2^40.
+//! Fractions of at least 0 over their least common denominator, as a bound has them. A number can be printed if it is at most
+//! 2^40.
 ghost use Rattle.std.specs.Prelude.{◌≡◌, ◌<◌, ◌≤◌, ◌++◌, length, map, IfOk, OnOk, IfErr};
 ghost use Rattle.std.specs.List.{fold, All, Any};
 ghost use Rattle.dd_values.specs.Bounds.{most_number};
@@ -70,7 +71,7 @@ fn numerator_over(common: u64, fraction: &Fraction) -> Option<u64>
     printed(numerator)
 }
 
-/// The numerators of the fractions over the denominator `common`.
+/// The numerators of the fractions over the denominator `common`. Fails with `Overflow` if one can't be printed.
 fn numerators(
     alloc: Global,
     common: u64,
@@ -90,7 +91,8 @@ fn numerators(
     Ok(numbers)
 }
 
-/// The result of a simplex run, as a bound over the least common denominator of the run's columns and duals.
+/// The result of a simplex run, as a bound over the least common denominator of the run's columns and duals. Fails with
+/// `Overflow` if a number can't be printed.
 pub(crate) fn bound_of(
     alloc: Global,
     value: &Fraction,

@@ -15,12 +15,16 @@ use dd_rows::program_of;
 use std::alloc::Global;
 
 /// The best bound of the rule along the vectors. Along each vector, each position gives an amount that the pattern around it
-/// determines. The bound is the greatest number c such that, for some amounts, every position then holds at least c. The
-/// result also has such amounts, and duals that show that no amounts do better. `dd_simplex` finds all of these: it solves the
-/// rule's program in at most `pivots` pivots.
+/// determines. The bound is the greatest number c for which, with some amounts, the rows of the rule's program hold: c is at
+/// most the greatest weight that a position can have, and in each admissible filling of the ground the origin holds at least c
+/// in the end. The result also has such amounts, and duals that show that no amounts do better. `dd_simplex` finds all of
+/// these: it solves the program in at most `pivots` pivots.
+///
+/// There is one weight for each symbol. The radius is that of the boxes whose symbols are the patterns. The margin is that of
+/// the program's ground (see `dd_rows`).
 ///
 /// # Errors
-/// - `Large` if the program passes a limit on its size.
+/// - `Large` if the program passes a limit on its size (see `program_of`).
 /// - `Overflow` if a number of the run is greater than 2^127 - 1 in absolute value, or a number of its result, over the least
 ///   common denominator, is greater than 2^40.
 /// - `Pivots` if the run has not ended after `pivots` pivots.

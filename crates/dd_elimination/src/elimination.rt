@@ -1,19 +1,18 @@
-//! Variables are resolved away (Davis and Putnam 1960) where that leaves no more clauses than before: the clauses with the
-//! variable are replaced by all their resolvents on it. A clause that contains all literals of another is removed, and a
-//! literal that another clause makes redundant is dropped (Eén and Biere 2005). Each new clause is a step of a derivation. The
-//! step's hints are the two clauses that the new clause comes from.
+//! Variables are resolved away (Davis and Putnam 1960) where that leaves no more clauses than before: the clauses that have the
+//! variable or its negation are replaced by all their resolvents on it. A clause that contains all literals of another is
+//! removed, and a literal that another clause makes redundant is dropped (Eén and Biere 2005). Each new clause is a step of a
+//! derivation. The step's hints are the two clauses that the new clause comes from.
 //!
-//! No contract depends on what is done here. The search on the remaining clauses gives an answer, an answer for the whole list is
-//! made from it, and that one is checked. No invariant says that the indices kept here are within their lists. So the code tests
-//! them. The tests never fail.
+//! No contract depends on what is done here, since the answer for the whole list is checked. No invariant says that the indices
+//! kept here are within their lists. So the code tests them. The tests never fail.
 use crate::resolution::{Relation, distinct, relate, resolvent, resolvent_length, without};
 use dd_clause::{Clause, Cnf, Literal};
 use dd_derivation::Step;
 use dd_values::Items;
 use std::alloc::{AllocError, Global};
 
-/// A variable's pairs are the pairs of a clause with it and a clause with its negation. A variable with more pairs than this is
-/// kept.
+/// A pair of a variable is a clause that has the variable, together with a clause that has its negation. A variable with more
+/// pairs than this is kept.
 const MOST_PAIRS: usize = 1000;
 
 /// A variable is kept if one of its resolvents has more literals than this.
@@ -22,7 +21,7 @@ const MOST_LITERALS: usize = 20;
 /// The greatest number of rounds. Each round tries the variables whose clauses changed.
 const ROUNDS: usize = 10;
 
-/// About how many pairs of literals are compared at most. To compare so many takes about half a second.
+/// Roughly the greatest number of pairs of literals that are compared. To compare so many takes about half a second.
 const MOST_WORK: u64 = 100_000_000;
 
 /// A clause of the list or of a step.
@@ -55,7 +54,7 @@ struct Resolvent {
 /// A variable to be tried. Those with the fewest pairs come first.
 #[derive(Clone, Copy, PartialEq, Eq, PartialOrd, Ord)]
 struct Candidate {
-    /// How many pairs there are of a clause that has the variable and one that has its negation.
+    /// How many pairs the variable has (see `MOST_PAIRS`).
     pairs: usize,
     variable: u32,
 }
@@ -125,7 +124,8 @@ impl Elimination {
         Ok(Some(elimination))
     }
 
-    /// The whole list, each clause with distinct variables. Clauses that hold a literal and its negation are left out.
+    /// The whole list, each clause with distinct variables. Clauses that hold a literal and its negation are left out. If the
+    /// clauses are too long, `work` falls to 0, and the rest of them is left out too.
     fn start(alloc: Global, cnf: &Cnf) -> Result<Elimination, AllocError> {
         let count = cnf.variables() as usize + 1;
         let mut occurrences: Vec<Vec<usize>> = Vec::with_capacity(alloc, count)?;
@@ -243,7 +243,7 @@ impl Elimination {
         rarest
     }
 
-    /// How a clause relates to another one. They are unrelated if the other one isn't alive.
+    /// How a clause relates to another one. A clause is unrelated to itself, and to one that isn't alive.
     fn relation(&mut self, index: usize, other: usize) -> Relation {
         self.pay(1);
         if index == other || index >= self.entries.len() || other >= self.entries.len() {

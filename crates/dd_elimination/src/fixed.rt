@@ -1,8 +1,9 @@
-//! The list without the variables that unit propagation fixes, and the way back: from an answer for it to an answer for the whole
-//! list. A clause with a true literal is left out, and from the other clauses the false literals are dropped.
+//! The list without the variables that unit propagation fixes, and the way back: from an answer for it to an answer for the
+//! whole list. A clause with a true literal, or with a literal and its negation, is left out. From the other clauses the false
+//! literals are dropped.
 //!
-//! A search on the whole list meets the fixed variables in each conflict, and each time has to resolve with the clauses that
-//! force their values.
+//! This makes the search faster. On the whole list, it would meet fixed variables in each conflict, and each time would have to
+//! resolve with the clauses that force their values.
 use crate::propagation::{Fixed, code_of};
 use crate::whole::renumbered_step;
 use dd_clause::{Assignment, Clause, Cnf, Literal};
@@ -27,7 +28,8 @@ struct Sieve<'a> {
     fixed: &'a Fixed,
     /// The literals that are kept from the last clause.
     kept: Vec<Literal>,
-    /// For each literal, at the index of its code, the number of the last clause from which it was kept.
+    /// For each literal, at its code (see `code_of`), the number of the last clause from which it was kept, or 0 if there is
+    /// none. The clauses are numbered from 1 as they are sieved.
     last: Vec<u64>,
     /// How many clauses have been sieved.
     count: u64,
@@ -164,7 +166,8 @@ impl Fixed {
         Ok(Items::from_vec(refutation))
     }
 
-    /// These hints, and before them hints for the fixed literals: the clauses that force the variables of the hinted clauses.
+    /// These hints, and before them hints for the fixed literals: the clauses that force the fixed variables of the hinted
+    /// clauses, directly or through other fixed variables.
     fn more_hints(
         &self,
         alloc: Global,
@@ -221,8 +224,8 @@ impl Fixed {
 }
 
 impl<'a> Sieve<'a> {
-    /// Keeps, each once, those literals of a clause whose variables aren't fixed. Returns false if the clause is to be left out:
-    /// a literal of a fixed variable is true, or the clause has both a literal of another variable and its negation.
+    /// Keeps, each once, those literals of a clause whose variables aren't fixed. Returns false if the clause is to be left out
+    /// because one of its literals is true, or because it has a literal and its negation.
     fn keep_free(&mut self, literals: &[Literal]) -> Result<bool, AllocError> {
         self.kept.clear();
         self.count = self.count.saturating_add(1);

@@ -25,8 +25,8 @@ pub(crate) struct Fixed {
 /// For each literal, the indices of the clauses that contain it.
 #[derive(Drop)]
 struct Occurrences {
-    /// For each literal, at the index of its code, where its clauses begin in `clauses`. They end where those of the next code
-    /// begin.
+    /// For each literal, at its code (see `code_of`), where its clauses begin in `clauses`. They end where those of the next
+    /// code begin.
     starts: Vec<u32>,
     clauses: Vec<u32>,
 }
@@ -36,12 +36,12 @@ struct Occurrences {
 struct Propagation<'a> {
     clauses: &'a [Clause],
     occurrences: Occurrences,
-    /// For each clause, how many of its literals have not been read as false yet.
+    /// For each clause, how many of its literals have not been counted as false yet.
     left: Vec<u32>,
     fixed: Fixed,
 }
 
-/// The index of a literal in a list of all literals.
+/// The code of a literal: its index in a list that has an item for each literal.
 pub(crate) fn code_of(literal: Literal) -> usize {
     let even = 2 * literal.variable as usize;
     if literal.positive { even + 1 } else { even }

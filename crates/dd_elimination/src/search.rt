@@ -14,8 +14,12 @@ use std::alloc::{AllocError, Global};
 /// If a list has more clauses than this, `solve_reduced` eliminates no variables before the search.
 const MOST_CLAUSES: usize = 200_000;
 
-/// Like `solve_with`, but the variables that unit propagation fixes are eliminated before the search. This is faster on the
-/// clauses of questions about boxes and tori, and most long refutations are shorter.
+/// Finds an assignment that satisfies the clauses, or steps that refute them. The variables that unit propagation fixes are
+/// eliminated first. Then the clauses that are left are searched in the given style. On the clauses of questions about boxes
+/// and tori, this is faster than `solve_with` of `dd_solver`, and most long refutations are shorter.
+///
+/// # Errors
+/// `AllocError` if memory ran out.
 pub fn solve_propagated(alloc: Global, cnf: &Cnf, style: Style) -> Result<Outcome, AllocError>
     ensures answer { IfOk result (IsAnswer cnf.now.variables cnf.now.clauses) }
     ensures found { IfOk result (λ outcome. IsFound outcome ↔ IsSatisfiable cnf.now.clauses) }
@@ -24,7 +28,12 @@ pub fn solve_propagated(alloc: Global, cnf: &Cnf, style: Style) -> Result<Outcom
     propagated_answer(alloc, cnf, style)
 }
 
-/// Like `solve`, but variables are eliminated before the search. This is faster on clauses that ask for a weight below a bound.
+/// Finds an assignment that satisfies the clauses, or steps that refute them. Variables are eliminated by resolution first,
+/// unless the list has more than 200,000 clauses, or too many literals. On clauses that ask for a weight below a bound, this is
+/// faster than `solve` of `dd_solver`.
+///
+/// # Errors
+/// `AllocError` if memory ran out.
 pub fn solve_reduced(alloc: Global, cnf: &Cnf) -> Result<Outcome, AllocError>
     ensures answer { IfOk result (IsAnswer cnf.now.variables cnf.now.clauses) }
     ensures found { IfOk result (λ outcome. IsFound outcome ↔ IsSatisfiable cnf.now.clauses) }

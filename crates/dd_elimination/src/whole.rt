@@ -30,7 +30,7 @@ fn has_other_true(literals: &[Literal], variable: u32, values: &[bool]) -> bool 
 }
 
 /// Replaces clause numbers of the reduced list by those of the whole list. `numbers` has the new number of each clause of the
-/// reduced list. The steps of the search come after `before` clauses and steps.
+/// reduced list. In the whole list, `before` clauses and steps come before the steps of the search.
 fn renumbered(numbers: &[u64], before: u64, old: Items<u64>) -> Items<u64> {
     let count = numbers.len() as u64;
     let mut renumbered = old.into_vec();

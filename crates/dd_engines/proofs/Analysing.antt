@@ -1,5 +1,6 @@
--- The walk back from a conflict. At each point, take as false some of the literals that the entries still to be visited make false, including
--- all those of marked variables. Then the hints found so far lead to the conflict. In the end no entry is left, so no literal is taken as false.
+-- The walk back from a conflict. At each point, the entries still to be visited make some literals false. Take any of these literals as false, but at
+-- least all those of marked variables. Then the hints found so far lead to the conflict. In the end no entry is left, so no literal is taken as
+-- false.
 use Rattle.std.proofs.Common.{◌≡◌, ℕ, zero, suc, ◌+◌, ◌<◌, Bool, true, false, cond, not, ◌&&◌, List, [], ◌∷◌, ◌++◌, Some, refl, ap, sym, ◌∙◌, subst, inl, inr, ◌⊎◌, length, get_or, take, reverse, arith, add-one}
 use Rattle.std.proofs.lemmas.Bool.{cases_Bool, or_cases, or_left, or_right, false≢true}
 use Rattle.std.proofs.lemmas.List.{take_more, take_all, reverse-append, map-append, Folds.list_any-append}
@@ -76,7 +77,7 @@ leads_conflict cs entries marked k conflict m = record {
 falses-more : (entries : List Entry) (j : ℕ) (d : Entry) (x : Literal) → j < length entries → is_among (falses (take (j + 1) entries)) x ≡ is_among (falses (take j entries) ++ negation (get_or entries j d).literal ∷ []) x
 falses-more entries j d x lt = ap (λ (es : List Entry). is_among (falses es) x) (take_more entries j d lt) ∙ ap (λ (xs : List Literal). is_among xs x) (map-append (λ (e : Entry). negation e.literal) (take j entries) (get_or entries j d ∷ []))
 
--- a literal is false after an entry exactly when it was false before the entry, or if it is the negation of the entry's literal
+-- a literal is false after an entry exactly when it was false before the entry or is the negation of the entry's literal
 later_from : (entries : List Entry) (j : ℕ) (d : Entry) (x : Literal) → j < length entries → In (falses (take j entries)) x → In (falses (take (j + 1) entries)) x
 later_from entries j d x lt i = falses-more entries j d x lt ∙ list_any-append (same_literal x) (falses (take j entries)) (negation (get_or entries j d).literal ∷ []) ∙ or_left _ _ i
 
@@ -143,7 +144,7 @@ entry_in_range n cs entries j d all trail lt =
     let forced : IsForced cs (take j entries) e = trail j d lt in
     forced_has (IsLiteralInRange n) (is_among (falses (take j entries))) (get_or cs e.number []) e.literal (all e.number [] forced.within) forced.forced
 
--- if the variables of the literals read from a clause are marked, then so are those of the clause with this number
+-- if `literals` was read from the clause with number k, and its variables are marked, then the variables of the clause are marked
 pub marked_clause : (cs : List (List Literal)) (k : ℕ) (c literals : List Literal) (marked : List Bool) → k < length cs → c ≡ get_or cs k c → literals ≡ c → AreMarked marked literals → AreMarked marked (get_or cs k [])
 marked_clause cs k c literals marked lt is same m = subst (AreMarked marked) (same ∙ is ∙ any cs k c [] lt) m
   where

@@ -169,7 +169,7 @@ as_before cnf j k period less multiple is back (suc d) =
     let next : suc (d + k) ≡ suc d + k = omega arith in
     subst (λ (m : ℕ). IsAsBefore cnf j k period m) next (next_as cnf j k period (d + k) less multiple is back (as_before cnf j k period less multiple is back d))
 
--- All later values have occurred before: each is also reached after fewer flips.
+-- If no values after fewer than k flips satisfy the clauses, no values do. All later values have occurred before.
 none_after : (cnf : ClauseList) (j k period : ℕ) → j < k → (k - j) % period ≡ 0 → IsPeriod cnf j k period → values_after cnf j ≡ values_after cnf k → NoneBefore cnf k → (n : ℕ) → NoneBefore cnf n
 none_after cnf j k period less multiple is back none n m values lt reached satisfying = elim (cases_lt m k) [
   | inl before ↦ none m values before reached satisfying

@@ -1,4 +1,4 @@
--- How to find the first clause without a true literal from the counts of true literals.
+-- How the counts of true literals give the first clause without a true literal.
 use Rattle.std.proofs.Common.{◌≡◌, ℕ, zero, suc, ◌+◌, ◌<◌, Bool, true, false, cond, not, eqb, List, [], ◌∷◌, Some, refl, sym, ◌∙◌, ap, inl, inr, length, get_or, map, arith}
 use Rattle.std.proofs.lemmas.Bool.{cases_Bool, ne_eqb, false≢true, not-true, not-false}
 use Rattle.std.proofs.lemmas.List.{Sums.sum_by-cons, Elements.All-cons, Elements.All-nil}

@@ -15,11 +15,12 @@ use Rattle.dd_derivation.specs.lemmas.{Falses.among_snoc, Findings.finding-congr
 use Rattle.dd_engines.specs.{declared.analysis.Entry.Entry, SingleSteps.IsSingleStep}
 use Rattle.dd_engines.specs.propagation.Following.{is_other, is_false_by, unknown_count, unknowns, alive, falses, IsForced, IsTrail, Conflicts, Follows, FollowsMore, IsSettled}
 
--- a literal that a clause forces is one of the clause's own, and its variable has no value
+-- neither the literal nor its negation is false, so its variable has no value
 pub record IsFree (p : Literal → Bool) (l : Literal) : Type 0 where
   pub free : p l ≡ false
   pub other : p (negation l) ≡ false
 
+-- the variable of a forced literal has no value
 pub forced_is_free : (p : Literal → Bool) (c : List Literal) (l : Literal) → finding p c ≡ Forced l → IsFree p l
 forced_is_free p c l h = go (filter (λ x. not (p x)) c) refl h
   where
@@ -31,6 +32,7 @@ forced_is_free p c l h = go (filter (λ x. not (p x)) c) refl h
         let passes = All-head (λ x. not (p x) ≡ true) y rest (All-same (λ x. not (p x) ≡ true) (y ∷ rest) _ e (filter_passes (λ x. not (p x)) c)) in
         subst (λ (z : Literal). IsFree p z) f.1 (record { free = not-true _ passes; other = not-true _ q.1 })
 
+-- a forced literal is one of the clause's own, so it has each property that all of these have
 pub forced_has : (P : Literal → Type 0) (p : Literal → Bool) (c : List Literal) (l : Literal) → All P c → finding p c ≡ Forced l → P l
 forced_has P p c l all h = go (filter (λ x. not (p x)) c) refl h
   where
@@ -159,8 +161,7 @@ follows_from_nothing cs n = record {
   trail = λ k d h. absurd (omega (arith, h));
 }
 
--- Let each literal that is false by f be false by g. If a clause is open by g, then it is open by f too, or it forces by f a literal that is
--- true by g.
+-- if each literal that is false by f is false by g, leaving out those false by f first does not change which literals g leaves
 filter_again : (f g : Literal → Bool) → ((l : Literal) → f l ≡ true → g l ≡ true) → (c : List Literal) → filter (λ x. not (g x)) (filter (λ x. not (f x)) c) ≡ filter (λ x. not (g x)) c
 filter_again f g below [] = refl
 filter_again f g below (x ∷ xs) = elim (cases_Bool (f x)) [
@@ -214,6 +215,8 @@ settled_of f g (y ∷ rest) settled = elim (cases_Bool (list_all (same_literal y
     made_now : Forced y ≡ Open → ⊥
     made_now e = cc
 
+-- Let each literal that is false by f be false by g. If a clause is open by g, then it is open by f too, or it forces by f a literal that is
+-- true by g.
 settled_below : (f g : Literal → Bool) → ((l : Literal) → f l ≡ true → g l ≡ true) → (c : List Literal) → finding g c ≡ Open → (finding f c ≡ Open) ⊎ MadeTrue f g (filter (λ x. not (f x)) c)
 settled_below f g below c settled = settled_of f g (filter (λ x. not (f x)) c) (ap (finding_of g) (filter_again f g below c) ∙ settled)
 

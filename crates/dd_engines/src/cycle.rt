@@ -77,10 +77,10 @@ impl Landmark {
         }
     }
 
-    /// A period of the flips from the landmark up to and including flip number `k`, counted from 0. Flip `k` takes a clause of
-    /// this length. `period` is a period of the flips from the landmark up to, but not including, flip `k`, if one is known. It
-    /// isn't used if flip `k` is the first since the landmark. Returns `None` if `period` is needed but is `None`, or if the
-    /// new period is greater than `most`: a walk of `most` flips has no use for it.
+    /// A period of the flips from the landmark up to and including flip number `k`, counted from 0. `length` is the length of
+    /// the clause that flip `k` takes. `period` is a period of the flips from the landmark up to, but not including, flip `k`,
+    /// if one is known. It isn't used if flip `k` is the first since the landmark. Returns `None` if `period` is needed but is
+    /// `None`, or if the new period is greater than `most`: a walk of `most` flips has no use for it.
     pub fn period_with(&self, k: u32, period: Option<u32>, length: usize, most: u32) -> Option<u32>
         requires { IfSome period (λ t. 0 < t) }
         ensures { IfSome result (IsPeriodWith self.now.flips k period length) }

@@ -36,15 +36,16 @@ pub fn first_is_not_skipped()
     ensures pair { FirstAsked one_was_asked one_was_asked → ⊥ }
 {}
 
-/// Does nothing; its contract is a law about three points in time. Suppose that the roster is kept from the first to the
-/// second. If the first engine was asked between the second and the third, in the sense of `FirstAsked`, then the first engine
-/// was asked between the first and the third, in the same sense.
+/// Does nothing; its contract is a law about three points in time: A, then B, then C. Suppose that the roster is kept from A to
+/// B. If the first engine was asked between B and C, in the sense of `FirstAsked`, then it was asked between A and C, in the
+/// same sense.
 pub fn first_asked_earlier()
     ensures { (before between after : List Seen) → Kept before between → FirstAsked between after → FirstAsked before after }
 {}
 
 /// Does nothing; its contract is the law that a walk repeats itself once it is back in an earlier state: after equal states, it
-/// goes through equal states. If none of its assignments up to then satisfies the clauses, no later one does.
+/// goes through equal states. A state is the values of the variables, and which literal the next flip would pick from each
+/// clause. If none of the assignments before the walk is back satisfies the clauses, no later one does.
 pub fn walk_repeats()
     ensures same { (cnf : ClauseList) (j k : ℕ) → IsSameState cnf j k → (d : ℕ) → IsSameState cnf (j + d) (k + d) }
     ensures none { (cnf : ClauseList) (j k : ℕ) → j < k → IsSameState cnf j k → NoneBefore cnf k → (n : ℕ) → NoneBefore cnf n }

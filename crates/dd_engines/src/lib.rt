@@ -1,5 +1,9 @@
 //! Engines that propose an outcome for a clause list: an assignment that satisfies it, or a refutation, which is a list of steps
 //! that derive the empty clause. A roster asks the engines in turn and checks what they propose.
+//!
+//! There are two engines here. `Propagator` uses only unit propagation. `Walker` tries the assignments of a walk, which starts
+//! with all variables false; each flip changes the value of one variable. Both engines use chains: the chain of a literal lists
+//! the clauses that contain it.
 #![tactic(auto, using(std::proofs::lemmas::Grind::common_steps))]
 
 mod analysis;

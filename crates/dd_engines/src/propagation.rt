@@ -60,7 +60,8 @@ impl Trail {
     }
 
     /// Looks at a clause, and adds the literal that it forces to be true, if there is one. Returns what the look finds: the
-    /// clause forces a literal, all its literals are false, or it is open, which means neither.
+    /// clause forces a literal, all its literals are false, or it is open, which means neither. Returns `Open` if no clause has
+    /// this number.
     fn look(&mut self, clauses: &[Clause], number: usize) -> Result<Finding, AllocError>
         requires in_range { All (IsClauseInRange (length self.old.values.items)) clauses.now }
         requires follows { Follows clauses.now self.old.entries.items self.old.values.items }
@@ -131,7 +132,7 @@ impl<'a> Counts<'a> {
         })
     }
 
-    /// Lowers by one the count of each clause that has this literal, which became false. A clause that has one literal left then
+    /// Lowers by one the count of each clause that has this literal, which became false. A clause whose count falls to one
     /// waits to be looked at.
     fn falsify(&mut self, literal: Literal) -> Result<(), AllocError> {
         let mut at = self.chains.first(literal);
@@ -228,7 +229,8 @@ fn pass_back(trail: &mut Trail, clauses: &[Clause]) -> Result<Option<usize>, All
     Ok(None)
 }
 
-/// Makes a few passes without counts, in both directions.
+/// Makes a pass back and then at most `FEW` rounds, all without counts. Stops at a conflict, or if a pass forward changes
+/// nothing.
 fn few_passes(alloc: Global, trail: &mut Trail, clauses: &[Clause]) -> Result<Progress, AllocError>
     requires in_range { All (IsClauseInRange (length trail.old.values.items)) clauses.now }
     requires follows { Follows clauses.now trail.old.entries.items trail.old.values.items }

@@ -1,5 +1,5 @@
-//! The engine that uses only unit propagation. It refutes a clause list in one step if that can be done. Its cost is linear in
-//! the number of literals.
+//! The engine that uses only unit propagation. It refutes a clause list in one step if that can be done. Its time is linear in
+//! the number of variables plus the total length of the clauses.
 ghost use Rattle.std.specs.Prelude.{◌≡◌, ◌-◌, ◌^◌, ◌≤◌, true, IfOk, OnErr};
 ghost use Rattle.dd_engines.specs.Proposals.{IsRight, GivenAfter};
 ghost use Rattle.dd_engines.specs.Rounds.{RisesByOne};

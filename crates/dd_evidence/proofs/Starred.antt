@@ -1,4 +1,4 @@
--- There is only one list of the minimal patterns. In this list, the patterns of a node are the node's minimal list. An output can hold the list.
+-- There is only one list that `IsStarredList` accepts. In it, the patterns of a node are the node's minimal list. An output can hold the list.
 use Rattle.std.proofs.Common.{◌≡◌, ℕ, zero, suc, ◌*◌, ◌≤◌, ◌<◌, inl, inr, Bool, true, false, cond, Option, Some, None, List, [], ◌∷◌, ◌++◌, map, length, nat_eq, refl, ap, sym, subst, ◌∙◌, arith}
 use Rattle.std.proofs.lemmas.List.{map-append, append-nil}
 use Rattle.std.proofs.lemmas.List.Elements.{All-nil, All-cons, All-head, All-tail, All-append, All-weaker, All-contains_itself, All-map, filter-append}

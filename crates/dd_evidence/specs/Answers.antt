@@ -1,5 +1,5 @@
 -- The answers to questions that have only one right answer: whether a configuration lives in a subshift (obeys its rule at every cell), which
--- patterns a rule forbids, and which patterns are minimal.
+-- patterns a rule forbids, and what its minimal lists are.
 use Rattle.std.specs.Prelude.{ℤ, List}
 use Rattle.dd_pattern.specs.Tile.{Tile}
 use Rattle.dd_formula.specs.{LocalRule.LocalRule, Living.Lives}
@@ -16,6 +16,6 @@ pub data IsMemberCertificate (x : LocalRule) (t : Tile) : Answer → Type 0 wher
 pub data IsListCertificate (x : LocalRule) : Answer → Type 0 where
   all_forbidden : {patterns : List Listed} → IsForbiddenList x patterns → IsListCertificate x (answer.List patterns)
 
--- the answer lists the minimal patterns
+-- the answer has the minimal lists
 pub data IsMinimalCertificate (x : LocalRule) : Answer → Type 0 where
   all_minimal : {patterns : List Starred} → IsStarredList x patterns → IsMinimalCertificate x (answer.Minimal patterns)

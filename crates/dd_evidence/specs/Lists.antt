@@ -18,7 +18,7 @@ starred a p = record { node = a; symbols = p }
 abbrev pub IsForbiddenList : LocalRule → List Listed → Type 0
 IsForbiddenList x patterns = IsListTo (BreakingFillings x) listed x.nodes patterns
 
--- node by node, the minimal patterns, in the order in which they are found
+-- node by node, the patterns of the minimal list, in its order
 abbrev pub IsStarredList : LocalRule → List Starred → Type 0
 IsStarredList x patterns = IsListTo (IsMinimalList x) starred x.nodes patterns
 

@@ -46,7 +46,7 @@ pub fn lists_fit()
     dd_forbidden::known_symbols();
 }
 
-/// Does nothing. Its contract says that there is only one list of the minimal patterns of a rule.
+/// Does nothing. Its contract says that there is only one way to write the minimal lists of a rule, node by node.
 pub fn one_starred()
     ensures { (x : LocalRule) (some others : List AnyStarred) → IsStarredList x some → IsStarredList x others → some ≡ others }
 {
@@ -54,14 +54,14 @@ pub fn one_starred()
 }
 
 /// Does nothing. Its contract says that each listed pattern belongs to a node of the rule, and that the patterns of a node are
-/// the list of the minimal patterns there. So the laws of `dd_minimal` about such lists hold for them.
+/// the minimal list there. So the laws of `dd_minimal` about minimal lists hold for them.
 pub fn starred_are_minimal()
     ensures nodes { (x : LocalRule) (patterns : List AnyStarred) → IsStarredList x patterns → All (λ p. p.node < x.nodes) patterns }
     ensures minimal { (x : LocalRule) (patterns : List AnyStarred) (a : ℕ) → IsStarredList x patterns → a < x.nodes → IsMinimalList x a (patterns_at a patterns) }
 {}
 
-/// Does nothing. Its contract says that an output can hold the list of the minimal patterns, if at each node the cells that the
-/// rule reads have at most 65,536 fillings.
+/// Does nothing. Its contract says that an output can hold the minimal lists of a rule, if at each node the cells that the rule
+/// reads have at most 65,536 fillings.
 pub fn starred_fit()
     ensures { (x : LocalRule) (patterns : List AnyStarred) → IsRule x → HasFewPatterns x → IsStarredList x patterns → IsWritable (answer.Minimal patterns) }
 {

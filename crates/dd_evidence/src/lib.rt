@@ -1,8 +1,9 @@
-//! How answers write cells, configurations, and the patterns that a rule forbids. A pattern gives symbols to cells that the
-//! rule reads at a node, that is, cells whose symbols its formula asks for there. A rule forbids a pattern if the rule is false
-//! at the node wherever these cells have these symbols. An answer lists either all forbidden patterns that leave out no cell
-//! that is read, or minimal patterns. No further cell can be left out of a minimal pattern, and together the minimal patterns
-//! that are listed forbid exactly what the rule forbids.
+//! How answers write cells, configurations, and the patterns that a rule forbids. A rule reads a cell at a node if the rule's
+//! formula there asks for the cell's symbol. A pattern gives symbols to some or all of these cells, and their nodes allow these
+//! symbols. It is forbidden if the rule is false at the node, whatever allowed symbols the other cells have. An answer lists,
+//! node by node, either all forbidden patterns that leave out no cell, or the minimal list. A forbidden pattern is minimal if
+//! no pattern that leaves out a further cell is forbidden. The patterns of the minimal list are minimal, and together they
+//! forbid exactly what the rule forbids at the node. The list need not have all minimal patterns.
 #![tactic(auto)]
 
 mod laws;

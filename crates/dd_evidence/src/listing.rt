@@ -27,7 +27,7 @@ fn listed(alloc: Global, node: u32, filling: &Filling) -> Result<Listed, AllocEr
     })
 }
 
-/// All fillings that break the rule at the node. The cells that the rule reads there have few enough fillings that `forbidden`
+/// All fillings that break the rule at the node. The cells that the rule reads there have so few fillings that `forbidden`
 /// doesn't refuse.
 fn breaking(alloc: Global, rule: &Rule, node: u32) -> Result<Vec<Filling>, AllocError>
     requires node { node < rule.now.nodes }

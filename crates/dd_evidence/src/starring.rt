@@ -1,5 +1,5 @@
-//! The list of the minimal patterns that a rule forbids. They are written as starred patterns. A starred pattern has a star,
-//! `None`, for each cell that it leaves out.
+//! The minimal lists of a rule, one for each node. Their patterns are written as starred patterns. A starred pattern has a
+//! star, `None`, for each cell that it leaves out.
 ghost use Rattle.std.specs.Prelude.{◌≡◌, ◌<◌, IfOk, OnOk};
 ghost use Rattle.dd_question.specs.Lists.{HasFewPatterns};
 ghost use Rattle.dd_minimal.specs.Minimal.{AreMinimal, IsMinimalList};
@@ -37,7 +37,7 @@ fn starred(alloc: Global, node: u32, pattern: &Partial) -> Result<Starred, Alloc
     })
 }
 
-/// The minimal patterns at the node. The cells that the rule reads there have few enough fillings that `minimal` doesn't refuse.
+/// The minimal list at the node. The cells that the rule reads there have so few fillings that `minimal` doesn't refuse.
 fn minimal_at(alloc: Global, rule: &Rule, node: u32) -> Result<Vec<Partial>, AllocError>
     requires node { node < rule.now.nodes }
     requires few { HasFewPatterns rule.now }
@@ -50,7 +50,7 @@ fn minimal_at(alloc: Global, rule: &Rule, node: u32) -> Result<Vec<Partial>, All
     }
 }
 
-/// Appends the minimal patterns at the node.
+/// Appends the patterns of the minimal list at the node.
 fn push_starred(
     alloc: Global,
     rule: &Rule,
@@ -68,8 +68,8 @@ fn push_starred(
     Ok(())
 }
 
-/// The minimal patterns that a rule forbids, node by node. No further cell can be left out of any of them. Together they forbid
-/// exactly what the rule forbids.
+/// Minimal patterns that a rule forbids, node by node. No further cell can be left out of any of them. Together they forbid
+/// exactly what the rule forbids. The list need not have all minimal patterns.
 pub fn minimal_patterns(alloc: Global, rule: &Rule) -> Result<Items<Starred>, AllocError>
     requires { HasFewPatterns rule.now }
     ensures { IfOk result (IsStarredList rule.now) }

@@ -1,4 +1,4 @@
--- How far moves, walks and balls reach.
+-- How far moves and balls reach.
 use Rattle.std.proofs.Common.{◌≡◌, ℕ, zero, suc, ◌+◌, ◌*◌, ◌≤◌, Bool, true, false, List, [], ◌∷◌, Option, Some, None, ℤ, pos, negsuc, ◌≤ℤ◌, arith, refl, ap, sym, inl, inr, unsigned_abs, subst}
 use Rattle.std.proofs.lemmas.{Int.ints, Bool.and_parts, Bool.and_from, Bool.leb-true}
 use Rattle.std.specs.{Prelude.nat_le, Prelude.cond, Prelude.IfSome, Prelude.if◌then◌else◌, List.find, List.list_all}

@@ -49,8 +49,8 @@ pub fn symbol_near<R: Reads>(cell: &Cell, at: &Position, read: &R) -> Option<u32
     })
 }
 
-/// Whether all parts are true. Every part is evaluated, even once the value is known: a missing symbol further on still
-/// makes the answer `None`.
+/// Whether all parts are true. Even once the value is known, the later parts are evaluated: a missing symbol there still makes
+/// the answer `None`.
 #[cycle(evaluate)]
 fn evaluate_and<R: Reads>(parts: &[Expanded], at: &Position, read: &R) -> Option<bool>
     ensures { let look = seen (R.symbols read.now) at.now in
@@ -68,7 +68,7 @@ fn evaluate_and<R: Reads>(parts: &[Expanded], at: &Position, read: &R) -> Option
     Some(value)
 }
 
-/// Whether some part is true. Every part is evaluated, for the same reason as in `evaluate_and`.
+/// Whether some part is true. As in `evaluate_and`, the later parts are evaluated even once the value is known.
 #[cycle(evaluate)]
 fn evaluate_or<R: Reads>(parts: &[Expanded], at: &Position, read: &R) -> Option<bool>
     ensures { let look = seen (R.symbols read.now) at.now in

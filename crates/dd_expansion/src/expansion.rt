@@ -1,5 +1,5 @@
 //! The expansion of a formula at a cell, within a budget of instances. A quantifier is written out with one part for each
-//! cell of its balls, and an equality of two symbols with one part for each symbol.
+//! cell of its balls. An atom that compares two cells' symbols is written out with one part for each symbol of the alphabet.
 ghost use Rattle.std.specs.Prelude.{ℕ, ◌≡◌, ◌+◌, ◌*◌, ◌<◌, ◌≤◌, ◌∷◌, ◌++◌, [], true, length, map, Ok, Err, IfOk, IfErr};
 ghost use Rattle.std.specs.List.{sum_by};
 ghost use Rattle.dd_lattice.specs.InOrder.{in_order};
@@ -26,9 +26,10 @@ use std::alloc::{AllocError, Global};
 
 /// The setting in which a formula is expanded.
 ///
-/// At most 65 variables are in scope: the free one, and those of at most 64 nested quantifiers. The cell of a bound
-/// variable lies at most 12 further from the origin, along each axis, than the cell of some variable before it, because a
-/// ball has a radius of at most 3 and an edge leads at most 4 along an axis.
+/// At most 65 variables are in scope: the free one, and those of at most 64 nested quantifiers. The cell of the free variable
+/// is at the origin. The cell of a bound variable lies at most 12 further from the origin, along each axis, than the cell of
+/// some variable before it, because a ball has a radius of at most 3 and an edge leads at most 4 along an axis. So the cells
+/// of n variables lie at most 12n from the origin along each axis.
 #[derive(Clone, Copy)]
 struct Scope<'a> {
     alloc: Global,

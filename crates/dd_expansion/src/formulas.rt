@@ -25,8 +25,8 @@ pub struct BallOf {
     pub radius: u32,
 }
 
-/// A formula with one free variable. The first seven forms, from `Symbol` to `Node`, are the atoms. An atom is false if one
-/// of its terms has no cell.
+/// A formula whose only free variable is number 0, or a part of such a formula. The first seven forms, from `Symbol` to
+/// `Node`, are the atoms. An atom is false if one of its terms has no cell.
 #[derive(Debug, Drop)]
 pub enum Formula {
     /// The symbol at the term's cell is this one.

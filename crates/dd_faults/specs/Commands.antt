@@ -1,4 +1,4 @@
--- The faults of commands, in the order of their text.
+-- The faults of commands. Faults of the same rank are listed in the order of the text.
 use Rattle.std.specs.Prelude.{ℕ, ◌+◌, List, [], ◌++◌, length, Bool, false, not, ◌&&◌, ◌||◌, ◌==◌, nat_le, nat_lt}
 use Rattle.std.specs.{List.flat_map, List.list_any, List.zip, Option.option_map_or}
 use Rattle.dd_values.specs.Bounds.{most_weight, most_commands, widest_radius, greatest_radius, greatest_period, most_pivots}

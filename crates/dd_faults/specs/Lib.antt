@@ -8,7 +8,7 @@ pub mod Names
 pub mod Formulas
 -- items that repeat an earlier one
 pub mod Repeats
--- the faults of tokens, numbers and vectors
+-- the fault `Dimension`, the faults of tokens, and the entries of vectors
 pub mod Numbers
 -- the faults of configurations
 pub mod Boxes

@@ -1,4 +1,4 @@
--- The faults of tokens, numbers and vectors.
+-- The fault `Dimension`, the faults of tokens, and the entries of vectors.
 use Rattle.std.specs.Prelude.{ℕ, List, [], length, Bool, not, ◌==◌, nat_lt, ℤ, pos, ◌-ℤ◌}
 use Rattle.std.specs.List.{list_any}
 use Rattle.dd_known.specs.Limits.{most_letters, greatest_number, farthest}

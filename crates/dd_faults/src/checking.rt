@@ -111,7 +111,8 @@ fn note_command(alloc: Global, context: &Context, command: &Command, found: &mut
     Ok(())
 }
 
-/// Accepts a command that has no faults. Refuses any other command for the first among its faults of the lowest rank.
+/// Accepts a command that has no faults. Refuses any other command for the first among its faults of the lowest rank. The
+/// refusal may also say that memory ran out.
 pub fn check(alloc: Global, context: &Context, written: &Written) -> Result<(), Refusal>
     requires written { IsWritten context.now.text written.now }
     requires sound { IsSound context.now.known }

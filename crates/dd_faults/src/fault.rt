@@ -42,7 +42,7 @@ pub enum Limit {
     /// A rule or an automaton reads only cells that are at most 16 away along each axis.
     Reach,
     /// Compositions of automata are nested at most 64 deep. In a query about images or about a conjugacy, the images must obey
-    /// a rule, the target. The formula that says that an image obeys it and has allowed symbols is at most 64 deep too.
+    /// a rule, the target. The formula that says that an image obeys the target and has allowed symbols is at most 64 deep too.
     Depth,
     /// A configuration has at most `MOST_IN_BOX` symbols, and its shear is less than its first period. A torus has at most
     /// `MOST_IN_BOX` cells, and none of its periods is 0. A strip's periods are from 1 to `LONGEST_STRIP`.
@@ -63,7 +63,8 @@ pub enum Limit {
 /// What is wrong with a well-formed command.
 #[derive(Clone, Copy, Debug, PartialEq, Eq)]
 pub enum Fault {
-    /// A name refers to nothing, or to a symbol that the node of its cell doesn't allow.
+    /// A name refers to nothing of the kind that must stand there. In a configuration, a symbol that the node of its cell
+    /// doesn't allow counts as unknown too.
     Unknown(Name),
     /// A name is given a second time where it may be given only once.
     Twice(Name),

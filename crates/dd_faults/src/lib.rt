@@ -1,7 +1,11 @@
 //! The faults of well-formed commands: what can be wrong with a command that follows the grammar. The faults of a command form a
-//! list, in the order of its text. Each has a rank. Unknown names have the lowest rank, then come repetitions, then wrong
-//! dimensions and wrong numbers of items, then exceeded limits, in the order of the limits. A command with faults is refused
-//! for one of them: the first in the list among those of the lowest rank.
+//! list. Each has a rank. Unknown names have the lowest rank, then come repetitions, then wrong dimensions and wrong numbers of
+//! items, then exceeded limits, in the order of the limits. Faults of the same rank are listed in the order of the text. A
+//! command with faults is refused for one of them: the first in the list among those of the lowest rank. To note faults is to
+//! go through the list and keep that one.
+//!
+//! The limits `Instances`, `Reach`, `Depth`, `Patterns`, `States` and `Clauses` depend on what a command means. This crate
+//! doesn't test them, so the list doesn't contain their faults.
 #![tactic(auto, using(crate::proofs::Noting::faults))]
 
 mod atoms;

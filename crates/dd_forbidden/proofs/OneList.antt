@@ -17,7 +17,7 @@ one_list r a xs ys one other =
     same_sorted (slice_cmp nat_cmp) nat_list_cmp_total xs ys one.ascending other.ascending
     (λ q there. other.each q (one.only q there)) (λ q there. one.each q (other.only q there))
 
--- ---- its length
+-- ---- the length of the list
 
 joined_length : (f : ℕ → List (List ℕ)) (m : ℕ) → ((s : ℕ) → length (f s) ≤ m) → (k n : ℕ) → length (flat_map f (range_with_len k n)) ≤ n * m
 joined_length f m each k zero = omega arith
@@ -53,7 +53,7 @@ short_list r a xs ok is =
     let same : xs ≡ extensions r a (cells_at r a) [] = one_list r a xs (extensions r a (cells_at r a) []) is (breaking_fillings r ok a) in
     subst (λ (ys : List (List ℕ)). length ys ≤ r.symbols ^ length (cells_at r a)) (sym same) (extensions_length r a (cells_at r a) [])
 
--- ---- its symbols
+-- ---- the symbols of a breaking filling
 
 allowed_known : (r : LocalRule) (cs : List Cell) (ss : List ℕ) → IsRule r → are_allowed r cs ss ≡ true → All (λ s. s < r.symbols) ss
 allowed_known r [] [] ok h = All-nil (λ s. s < r.symbols)

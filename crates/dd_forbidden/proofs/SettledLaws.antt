@@ -9,7 +9,7 @@ use Rattle.dd_forbidden.specs.Breaking.{is_true_at_origin}
 use Rattle.dd_forbidden.specs.listing.Extensions.{completions, extensions, AreSymbols}
 use Rattle.dd_forbidden.specs.listing.Saying.{SaysRule}
 
--- the rule's truth is the same under all symbols that begin with these
+-- the rule has the truth value b under every list of symbols that begins with ss
 abbrev pub Settles : LocalRule → ℕ → List ℕ → Bool → Type 0
 Settles r a ss b = (more : List ℕ) → AreSymbols r (ss ++ more) → is_true_at_origin r a (ss ++ more) ≡ b
 

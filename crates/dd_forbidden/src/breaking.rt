@@ -12,8 +12,9 @@ use dd_values::Items;
 use std::alloc::Global;
 
 /// The breaking fillings of the rule at this node of the origin. A breaking filling gives each cell that the rule reads there a
-/// symbol that the cell's node allows, and the rule is false under these symbols. The fillings are listed in the lexicographic
-/// order of their symbols, each once. A rule that reads no cell and is false has one breaking filling, the empty one.
+/// symbol that the cell's node allows, and the rule is false under these symbols. The cells of a filling are in cell order (by
+/// z, then y, then x, then the node). The fillings are listed in the lexicographic order of their symbols, each once. A rule
+/// that reads no cell and is false has one breaking filling, the empty one.
 ///
 /// # Errors
 /// `Size` if the cells that are read have more than 65,536 fillings over the whole alphabet. Otherwise `Memory`, if memory runs

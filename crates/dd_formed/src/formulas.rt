@@ -130,13 +130,14 @@ impl Signature<'_> {
     }
 }
 
-/// Whether a rule may be made from the formula, over this topology with `labels` labels and an alphabet of `symbols` symbols:
-/// - It has one free variable, and each variable, label, node and symbol in it exists.
+/// Whether the formula is one that `Rule::new` takes, over this topology with `labels` labels and an alphabet of `symbols`
+/// symbols:
+/// - Its only free variable is number 0, and each variable, label, node and symbol in it exists.
 /// - Its terms have at most 16 moves, and its quantifiers at most 4 balls, of radius at most 3.
 /// - It is at most 64 deep. A negation, an implication, an equivalence, a quantifier, or a conjunction or disjunction of two or
 ///   more parts is one deeper than its deepest part.
 ///
-/// Allocates nothing.
+/// `Rule::new` itself tests the limits on instances and reach. Allocates nothing.
 pub fn is_formula(topology: &Topology, labels: u32, symbols: u32, formula: &Formula) -> bool
     requires { length topology.now.labels ≡ labels }
     ensures { IsTrue result ↔ IsFormula topology.now symbols formula.now }

@@ -1,5 +1,6 @@
 //! Whether a formula may become a rule, and whether an automaton is well formed. Each variable, label, node and symbol in the
-//! formula or the automaton must exist, and the limits must be kept.
+//! formula or the automaton must exist, and the limits must be kept. A label is the name of a move from one cell to another. An
+//! automaton is given by a list of cases, each of them a rule with a symbol, or it is the composition of two automata.
 #![tactic(auto)]
 
 mod automata;

@@ -11,8 +11,8 @@ pub enum RuleFault {
     #[error("a cell is read that lies more than 16 away along an axis")]
     Reach,
     /// The rule or the automaton has more than 20,000 instances at some node. `Rule` and `Automaton::instances` say what
-    /// instances are. The message calls them parts.
-    #[error("there are more than 20000 parts at a node")]
+    /// instances are.
+    #[error("there are more than 20000 instances at a node")]
     Instances,
     /// Compositions are nested more than 64 deep.
     #[error("a composition is nested more than 64 deep")]

@@ -1,6 +1,7 @@
 //! Local rules and cellular automata: the truth of a rule, the value of an automaton, the cells that they read (the cells
 //! whose symbols they look up), and their limits. The crate also tests whether a periodic configuration lives in the subshift
-//! of a rule: the set of the configurations for which the rule is true at every cell.
+//! of a rule: the set of the configurations for which the rule is true at every cell. A periodic configuration is determined by
+//! the symbols in one box, its fundamental box.
 //!
 //! Three numbers are limited: the number of instances, the reach and the depth. The expansion of a rule at a node is the rule's
 //! formula there, without variables. Its constants, leaves and connectives are the rule's instances at the node. (A leaf says

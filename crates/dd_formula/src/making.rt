@@ -99,7 +99,7 @@ pub(crate) fn are_near(cells: &[Cell]) -> bool
     cells.iter().all(|cell| is_near(cell))
 }
 
-/// The cells that an expansion reads, in cell order.
+/// The cells that an expansion reads, in cell order. The fault is `Reach` if one of them lies more than `MOST_REACH` away.
 fn reads_of(alloc: Global, expansion: &Expanded) -> Result<Items<Cell>, RuleFault>
     ensures ok { IfOk result (λ cells. cells ≡ in_order (leaf_cells expansion.now)) }
     ensures near { OnOk result (list_all is_near (leaf_cells expansion.now) ≡ true) }

@@ -15,8 +15,8 @@ use dd_pattern::{Filling, Reads};
 use std::alloc::{AllocError, Global};
 
 impl Cases {
-    /// The symbol of the first case whose rule is true at the cell, or the default symbol if there is no such case. Allocates
-    /// nothing.
+    /// The symbol of the first case whose rule is true at the cell, or the default symbol if there is no such case. Each cell
+    /// that the rules read there must lie in the range of positions and have a symbol. Allocates nothing.
     pub fn value<R: Reads>(&self, at: &Cell, read: &R) -> u32
         requires { HasCasesLook self.now at.now (R.symbols read.now) }
         ensures { result ≡ first_case self.now.cases self.now.otherwise (R.symbols read.now) at.now }

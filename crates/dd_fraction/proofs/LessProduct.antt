@@ -75,7 +75,7 @@ pub small_less_product : (a q b : Exact) → IsSmall a → IsSmall q → IsSmall
     → Some (plus a (minus (times q b))) ≡ checked_less_product a q b
 small_less_product a q b s t u = chosen (does_less_product_fit a q b) (plus a (minus (times q b))) (small_fits a q b s t u)
 
--- ---- small numbers are machine words
+-- ---- the intermediate numbers fit in 64 bits, and some of them in 32
 pub record AreWords (a q b : Exact) : Type 0 where
   pub own : SFits w64 a.num
   pub factor : SFits w32 q.num
@@ -151,7 +151,7 @@ unfolding opposite_product
 alike_less_product a q b n d p s t e f g =
     (λ i. lowest (e i) (f i)) ∙ (alike_plus a (opposite_product q b) p g ∙ plus_opposite a q b s t)
 
--- ---- words in lowest terms
+-- ---- 0 in lowest terms
 zero_times : (n : ℤ) (d : ℕ) → n ≡ pos 0 → n *ℤ pos d ≡ pos 0
 zero_times n d e = ap (λ (x : ℤ). x *ℤ pos d) e ∙ ap pos (omega arith)
 

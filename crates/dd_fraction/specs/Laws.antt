@@ -1,5 +1,5 @@
--- The laws of exact fractions: those of an ordered field, for fractions in lowest terms. Sums and products are always in
--- lowest terms.
+-- The laws of exact fractions. They are those of an ordered field, if fractions with the same lowest terms count as equal. Sums and products are
+-- always in lowest terms.
 use Rattle.std.specs.Prelude.{◌≡◌, ◌≢◌, ◌⊎◌}
 use Rattle.std.specs.declared.cmp.Ordering.TheVariants.{Less, Equal, Greater}
 use lib.IntN.{pos}

@@ -1,4 +1,4 @@
-//! Laws of exact fractions, as contracts of calls that do nothing.
+//! Laws of exact fractions, as contracts of calls that do nothing. Fractions with the same lowest terms count as equal.
 ghost use Rattle.dd_fraction.specs.Laws.{AreSumLaws, AreProductLaws, AreOppositeLaws, AreOrderLaws, AreOrderedFieldLaws};
 
 /// Does nothing; its contract says that addition is commutative and associative, that adding 0 changes nothing, and that a

@@ -109,7 +109,7 @@ impl Fraction {
     }
 
     /// The sum of two fractions with the same denominator, without cross products. `None` if the denominators differ, or if
-    /// one of the numbers is not a signed machine word. For such words, cross products are never too large.
+    /// one of the numbers is not a signed machine word. For such words, no intermediate number of `cross_sum` is too large.
     #[inline(always)]
     fn alike_sum(&self, other: &Fraction) -> Option<Fraction>
         ensures { IfSome result (λ s. Some s ≡ checked_sum self.now other.now) }

@@ -27,15 +27,16 @@ pub record IsForBoth (s : Parts) : Type 0 where
   pub spike : IsWhole s 1 spike
   pub checkerboard : IsWhole s 1 checkerboard
 
--- The script has a query with this number, counted from 1. The answer is YES, and it is a certificate for the query. v is a position of Z^d.
+-- The script has a query with this number, counted from 1. The answer is YES. It is a certificate for the query, and an output can hold it. v is a
+-- position of Z^d.
 pub record IsExclusion (s : Parts) (number : ℕ) (a : Answer) (v : Place) : Type 0 where
   pub query : HasQuery s number
   pub position : is_flat s.known.setting.topology.dimension v ≡ true
   pub yes : is_yes a ≡ true
   pub certificate : IsCertificate s number a
 
--- The script has a query with this number, counted from 1, and it asks about a conjugacy. The answer is CONJUGATE, and it is a certificate for the
--- query. v is a position of Z^d.
+-- The script has a query with this number, counted from 1, and it asks about a conjugacy. The answer is CONJUGATE. It is a certificate for the query,
+-- and an output can hold it. v is a position of Z^d.
 pub record IsInversion (s : Parts) (number : ℕ) (a : Answer) (v : Place) : Type 0 where
   pub query : HasQuery s number
   pub conjugacy : IsConjugacyAt s number

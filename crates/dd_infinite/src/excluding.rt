@@ -41,6 +41,8 @@ fn is_yes(answer: &Answer) -> bool
 /// Then, if the configuration obeys the query's premise everywhere, the goal doesn't hold at `place`. If the query asks about an
 /// equality, this is so for both its box questions. `Ok(false)` says nothing about the configuration.
 ///
+/// The configuration must have the script's number of nodes, and at each cell of Z^d a symbol that the cell's node allows.
+///
 /// # Errors
 /// `AllocError` if memory ran out.
 #[tactic(auto, using(crate::proofs::Whole::exclusion))]

@@ -47,6 +47,8 @@ fn is_conjugate(answer: &Answer) -> bool
 /// the second rule at `place`, and the second automaton takes the image back to the configuration's symbols there. The same holds
 /// with the two rules exchanged and the two automata exchanged. `Ok(false)` says nothing about the configuration.
 ///
+/// The configuration must have the script's number of nodes, and at each cell of Z^d a symbol that the cell's node allows.
+///
 /// # Errors
 /// `AllocError` if memory ran out.
 #[tactic(auto, using(crate::proofs::Whole::inversion))]

@@ -1,9 +1,12 @@
 //! What an accepted answer YES or CONJUGATE says about configurations that are functions on all cells of Z^d, with or without a
-//! period. An answer is accepted if the check finds that it is a certificate for its query.
+//! period. A certificate is an answer with all that is needed to check it without a search. An answer is accepted if it is a
+//! certificate for its query and an output can hold it: its numbers and lists are within the bounds that `dd_certificate`
+//! states.
 //!
-//! YES answers a box question, or both box questions of an equality. A box question has a premise, which is a rule, and a goal,
-//! such as that another rule is broken. YES says that the goal holds nowhere in a configuration that obeys the premise
-//! everywhere. CONJUGATE says that two automata are inverse maps between the configurations of two rules.
+//! YES answers a box question, or both box questions of an equality. A box question has a premise, which is a rule, and a goal:
+//! a property of a position, such as that another rule is broken there. YES says that the goal holds nowhere in a configuration
+//! that obeys the premise everywhere. CONJUGATE answers a query about a conjugacy. It says that two automata are inverse maps
+//! between the configurations that obey one rule and those that obey another.
 #![tactic(auto)]
 
 mod excluding;

@@ -28,7 +28,7 @@ pub struct Known {
     pub weights: Items<u32>,
     /// The limits of the searches.
     pub limits: Limits,
-    /// The names of the rules. Rules, automata and configurations never share a name.
+    /// The names of the rules. This list and the next two are in the order of the definitions, and no name is in two of them.
     pub rules: Names,
     /// The names of the automata.
     pub automata: Names,

@@ -1,5 +1,5 @@
-//! What a script has defined before one of its commands: its topology, alphabets, weights, limits of searches, and names. Also
-//! the limits on what a script may write.
+//! What a script has defined before one of its commands: its topology, alphabets, weights, limits of searches, and names. The
+//! crate also has the limits on what a script may write.
 #![tactic(auto)]
 
 mod known;

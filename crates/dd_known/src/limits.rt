@@ -24,7 +24,7 @@ pub const MOST_MOVES: usize = 16;
 /// The greatest number of balls of a quantifier.
 pub const MOST_BALLS: usize = 4;
 
-/// The greatest number of cells in the fundamental box of a configuration, the box that repeats.
+/// The greatest number of cells in the fundamental box of a configuration or a torus, the box that repeats.
 pub const MOST_IN_BOX: usize = 65_536;
 
 /// The greatest number of vectors of a discharge.

@@ -63,7 +63,7 @@ run_weaker axis low high last ps more p h =
     let most = h.most in
     record { origin = h.origin; member = h.member; steps = h.steps; least = h.least; most = omega (arith, ints); is = h.is }
 
--- the union of a run and a copy of it, moved by at most the run's length, is a longer run
+-- a run and a copy of it, moved by s steps, lie in the run that is longer by s
 pub longer_run : (axis : Axis) (low high s : ℤ) (ps run : List Place) → pos 0 ≤ℤ s → IsRegionOf (IsStretched axis low high ps) run →
     (p : Place) → IsExtended axis s run p → IsStretched axis low (high +ℤ s) ps p
 longer_run axis low high s ps run some region p (inl c) =
@@ -91,6 +91,7 @@ by_order c high Greater h = inr (omega (arith, ints))
 step_cases : (c high : ℤ) → (c <ℤ high) ⊎ (high ≤ℤ c)
 step_cases c high = by_order c high (int_cmp c high) (int_ranks c high)
 
+-- if s is at most the run's length, the run that is longer by s lies in the union of the run and that copy
 pub run_extended : (axis : Axis) (low high s : ℤ) (ps run : List Place) → pos 0 ≤ℤ s → (low +ℤ s) ≤ℤ high → IsRegionOf (IsStretched axis low high ps) run →
     (p : Place) → IsStretched axis low (high +ℤ s) ps p → IsExtended axis s run p
 run_extended axis low high s ps run some short region p h =

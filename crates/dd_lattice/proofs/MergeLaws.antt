@@ -34,7 +34,7 @@ swap_either : (left right : List Place) (p : Place) → IsInEither left right p 
 swap_either left right p (inl c) = inr c
 swap_either left right p (inr c) = inl c
 
--- the same, with the two lists exchanged
+-- IsMerged still holds after the two lists are exchanged
 merged_swap : (l lr r rr made : List Place) → IsMerged l lr r rr made → IsMerged r rr l lr made
 merged_swap l lr r rr made m = record {
   ascending = m.ascending;
@@ -45,7 +45,7 @@ merged_swap l lr r rr made m = record {
   before_right = m.before_left;
 }
 
--- the members are still right after one position is appended to the left part and to the merged list
+-- if one position is appended to the left part and to `made`, then `made` is still the union of both parts
 members_push : (l r made : List Place) (x : Place) → ((p : Place) → Contains made p ↔ IsInEither l r p) →
     (p : Place) → Contains (made ++ x ∷ []) p ↔ IsInEither (l ++ x ∷ []) r p
 members_push l r made x same p = (
@@ -85,7 +85,7 @@ take_left l lr r rr made x m first = record {
   before_right = λ p q c d. before_push made x q (λ z e. m.before_right z q e d) (first q d) p c;
 }
 
--- the members are still right after a position that the left part already has is appended to the right part
+-- if a position of the left part is appended to the right part, then `made` is still the union of both parts
 members_both : (l r made : List Place) (x : Place) → Contains l x → ((p : Place) → Contains made p ↔ IsInEither l r p) →
     (p : Place) → Contains made p ↔ IsInEither l (r ++ x ∷ []) p
 members_both l r made x has same p = (

@@ -9,7 +9,7 @@ use thiserror::Error;
 #[derive(Clone, Copy, Debug, PartialEq, Eq, Error)]
 pub enum LatticeFault {
     /// A coordinate would exceed 2^20 in absolute value.
-    #[error("a coordinate would exceed 2^20")]
+    #[error("a coordinate would exceed 2^20 in absolute value")]
     Range,
     /// Memory ran out.
     #[error("out of memory")]

@@ -1,6 +1,6 @@
 //! The growth of a region, axis by axis. A run of n copies is the union of n copies of the region, each moved one step further
-//! along an axis than the one before. The union of such a run and the same run moved by n steps is a run of 2n copies. So
-//! growth by n takes about log n unions on each axis.
+//! along an axis than the one before. The union of such a run and the same run moved by n steps is a run of 2n copies. Growth
+//! by r is a run of 2r + 1 copies along each axis, and so takes about log r unions there.
 ghost use Rattle.std.specs.Prelude.{◌≡◌, ◌+◌, ◌*◌, ◌≤◌, ℤ, pos, ◌-ℤ◌, ◌+ℤ◌, ◌≤ℤ◌, MatchResult};
 ghost use Rattle.dd_lattice.specs.Place.{most_coordinate};
 ghost use Rattle.dd_lattice.specs.Regions.{IsRegionOf, IsFaultOf, IsNearby};

@@ -1,6 +1,7 @@
 //! Positions and cells of the lattice Z^d for d = 1, 2, 3, their order, and boxes and regions of positions. Each position has
-//! one or more nodes, which are numbered from 0. A cell is a position together with one of its nodes. A box consists of all
-//! positions whose coordinates lie between two bounds on each axis. A region is a finite set of positions.
+//! one or more nodes, which are numbered from 0. A cell is a position together with one of its nodes. Cell order is by z, then
+//! y, then x, then the node. A box consists of all positions whose coordinates lie between two bounds on each axis. A region is
+//! a finite set of positions.
 #![tactic(auto, using(std::proofs::lemmas::Grind::common_steps))]
 
 mod bounds;

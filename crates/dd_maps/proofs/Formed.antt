@@ -56,6 +56,6 @@ module _ (g : Grid) (s : SymbolSets) where
       (list_all-map (λ h. formula_fits g s.symbols h 1) (guard s) (guarded_nodes s g.nodes)
       ∙ kept_all (λ a. formula_fits g s.symbols (guard s a) 1) (λ a. not (allows_all s a)) g.nodes guard_fits)
 
--- the formula which says that the cell has the symbol t has no parts, so its depth is 0
+-- a formula `symbol_is t` has no parts, so its depth is 0
 pub depth_symbol : (t : ℕ) → depth (symbol_is t) ≡ 0
 depth_symbol t = ap depth (sym (v.rolls-Symbol here t)) ∙ fold-roll-Formula ℕ depth_step (Formula-F.Symbol here t)

@@ -1,4 +1,4 @@
--- The cells that the marked automaton, the zero automaton and the identity read are never too far away.
+-- The cells that the marked automaton, the zero automaton and the identity read are near: within the limit on reach.
 use Rattle.std.proofs.Common.{◌≡◌, ◌<◌, ℕ, ◌-◌, Bool, true, List, [], ◌∷◌, map, refl, ap, sym, ◌∙◌, subst}
 use Rattle.std.proofs.lemmas.Bool.{and_from}
 use Rattle.std.proofs.lemmas.List.Folds.{list_all-map, list_all-append, flat_map-map}

@@ -31,7 +31,7 @@ module _ (g : Grid) (s : SymbolSets) where
   pub zero_few : (n : ℕ) → is_few n (counted (always_zero g s)) ≡ true
   zero_few n = ap (is_few n) (counted_given _) ∙ all_pass _ (λ a. refl) (range_with_len 0 n)
 
-  -- the expansion of each case of the identity (its formula without variables) is a single leaf
+  -- An expansion is a formula written without variables. The expansion of each case of the identity is a single leaf.
   symbol_expansion : (t a : ℕ) → expansion_at (local_rule g s (symbol_is t)) a ≡ leaf t (origin_at a)
   symbol_expansion t a =
       ap (λ f. expansion g.edges s.symbols f (origin_at a ∷ [])) (sym (v.rolls-Symbol here t))

@@ -29,7 +29,8 @@ IsMarkedFault g s y Memory = Unit {0}
 abbrev pub IsLaterFault : Grid → SymbolSets → LocalRule → Automaton → RuleFault → Type 0
 IsLaterFault g s y f e = PassesGuard s y × IsCompositionFault g.nodes (composition (marked g s y) f) e
 
--- whether the fault is right: `Depth` if the guarded formula is too deep; else a fault of the composition; `Memory` always
+-- Whether the fault is right. `Depth` is right if the guarded formula is too deep. Otherwise a fault is right if the composition has it. `Memory` is
+-- always right.
 abbrev pub IsImageFault : Grid → SymbolSets → LocalRule → Automaton → RuleFault → Type 0
 IsImageFault g s y f Depth = IsGuardDeep s y ⊎ IsLaterFault g s y f Depth
 IsImageFault g s y f Instances = IsLaterFault g s y f Instances

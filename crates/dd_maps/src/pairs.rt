@@ -139,8 +139,8 @@ pub fn image_pair(
     Ok((composed, zero))
 }
 
-/// Two automata: the composition that applies `inner` and then `outer`, and the identity. At a cell that has a symbol, the two
-/// differ exactly when the composition changes the symbol.
+/// Two automata: the composition that applies `inner` and then `outer`, and the identity. At a cell that has a symbol of the
+/// alphabet, the two differ exactly when the composition changes the symbol.
 ///
 /// # Errors
 /// `Instances`, `Reach` or `Depth` if the composition exceeds the limit that the fault names; the limits are tested in this

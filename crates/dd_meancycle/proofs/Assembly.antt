@@ -1,4 +1,4 @@
--- The parts of `least_mean`, put together.
+-- The parts of `mean_of`, put together.
 use Rattle.std.proofs.Common.{◌≡◌, ℕ, zero, suc, ◌+◌, ◌-◌, ◌*◌, ◌<◌, ◌≤◌, Bool, true, List, [], ◌∷◌, ◌++◌, length, get_or, Option, Some, None, arith, refl, sym, ap, ◌∙◌, subst, inl, inr, is_some}
 use Rattle.std.proofs.{lemmas.Bool.cases_lt, lemmas.List.Elements.All-contains, Math.Nat.mul-le-mul_right, Math.Nat.le_of_mul-le-mul_right}
 use Rattle.std.specs.{Prelude.◌⊎◌, List.Contains, List.All}

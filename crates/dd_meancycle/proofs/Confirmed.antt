@@ -1,4 +1,4 @@
--- A cycle and potentials that the exact check confirms.
+-- A cycle and potentials, or ranks, that the exact check confirms.
 use Rattle.std.proofs.Common.{◌≡◌, ℕ, ◌*◌, ◌<◌, ◌≤◌, ◌^◌, ◌-ℤ◌, ◌≤ℤ◌, List, length, take, get_or, true, ℤ, pos, unsigned_abs, arith, sym, ap, ◌∙◌, subst}
 use Rattle.std.proofs.lemmas.{Bool.leb-true, List.Sums.AllPass-from_list_all}
 use Rattle.std.proofs.lemmas.List.{Elements.All-contains, Elements.All-weaker, take_all}
@@ -13,7 +13,7 @@ use Rattle.dd_meancycle.proofs.EdgeLaws.{edge_of, cycle_least, no_cycle}
 pub all_taken : {X : Type 0} (P : X → Type 0) (xs : List X) (i : ℕ) → length xs ≤ i → All P (take i xs) → All P xs
 all_taken P xs i le all = subst (All P) (take_all i xs le) all
 
--- potentials that pass the test are bounded
+-- potentials that pass the test `are_bounded` are at most 2^40 in absolute value
 pub all_bounded : (ps : List ℤ) → list_all (λ p. nat_le (unsigned_abs p) (2 ^ 40)) ps ≡ true → All (λ p. unsigned_abs p ≤ 2 ^ 40) ps
 all_bounded ps h =
     All-weaker (λ p. nat_le (unsigned_abs p) (2 ^ 40) ≡ true) (λ p. unsigned_abs p ≤ 2 ^ 40) (λ p le. leb-true (unsigned_abs p) (2 ^ 40) le) ps

@@ -49,7 +49,7 @@ cycle_light edges n i x v a end m l cycle rest all among walk is some len weight
     let w : (a + edges_weight cycle + edges_weight rest) * l ≡ end * l = ap (λ (z : ℕ). z * l) weight in
     omega arith
 
--- some rise of v has a mean of at least m / l
+-- some rise of v to the weight `end` has a mean of at least m / l
 abbrev pub HasRise : List Edge → ℕ → ℕ → ℕ → ℕ → ℕ → Type 0
 HasRise edges n m l v end = (k : ℕ) × (before : ℕ) × (k < n) × (least edges n k v ≡ Some before) × (before * l + m * (n - k) ≤ end * l)
 

@@ -1,4 +1,4 @@
--- What potentials and ranks say about every walk.
+-- What potentials say about every walk.
 use Rattle.std.proofs.Common.{◌≡◌, ℕ, ◌+◌, ◌*◌, ◌<◌, ◌≤◌, List, [], ◌∷◌, ◌++◌, length, arith, refl, sym, ap, ◌∙◌, subst}
 use Rattle.std.specs.List.{Contains}
 use Rattle.dd_meancycle.specs.declared.edges.Edge.{Edge}

@@ -96,7 +96,8 @@ fn are_bounded(potentials: &[i64]) -> bool
     potentials.iter().all(|potential| is_bounded(potential))
 }
 
-/// The mean of the cycle in lowest terms, if the cycle and the potentials show that no cycle has a smaller mean.
+/// The mean of the cycle in lowest terms, if the cycle and the potentials show that no cycle has a smaller mean. `None` if they
+/// don't, if the cycle has more states than the graph, or if a potential is too great for an output.
 pub(crate) fn confirmed(
     graph: &Graph,
     edges: &[Edge],

@@ -20,16 +20,17 @@ use std::alloc::{AllocError, Global};
 /// which show that there is no cycle.
 #[derive(Debug, Drop)]
 pub enum Mean {
-    /// The mean is `numerator / denominator` in lowest terms. The cycle is given by its states, at most as many as the graph
-    /// has. Each state has a potential of at most 2^40 in absolute value. Along each edge the potential rises by at most
-    /// `denominator * weight - numerator`, where `weight` is the weight of the edge.
+    /// The mean is `numerator / denominator` in lowest terms. The cycle is a list of states, at most as many as the graph has.
+    /// Each has an edge to the next, and the last has an edge to the first. There is one potential for each state, listed in
+    /// the order of the states' numbers, and it is at most 2^40 in absolute value. Along each edge the potential rises by at
+    /// most `denominator * weight - numerator`, where `weight` is the weight of the edge.
     Least {
         numerator: u64,
         denominator: u64,
         cycle: Items<u32>,
         potentials: Items<i64>,
     },
-    /// One rank for each state.
+    /// One rank for each state, listed in the order of the states' numbers. The rank falls along each edge.
     NoCycle {
         ranks: Items<u32>,
     },

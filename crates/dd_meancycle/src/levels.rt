@@ -23,7 +23,7 @@ impl Model for Level {
     ghost view = { λ l. l.least.items };
 }
 
-/// The smaller of the best weight so far and the weight `here`.
+/// The smaller of the best weight so far, if there is one, and the weight `here`.
 fn lower(best: Option<u32>, here: u32) -> u32
     ensures { Some result ≡ lowered best here }
 {
@@ -33,8 +33,9 @@ fn lower(best: Option<u32>, here: u32) -> u32
     }
 }
 
-/// Relaxes the edge. The lightest walk of the previous level to the edge's source, followed by the edge, is a walk to the
-/// edge's target. The weight of this walk becomes the target's entry in `row` if that entry is `None` or greater.
+/// Relaxes the edge. A lightest walk of the previous level to the edge's source, followed by the edge, is a walk to the edge's
+/// target. The weight of this walk becomes the target's entry in `row` if that entry is `None` or greater. If no walk of the
+/// previous level leads to the source, `row` stays as it is.
 fn relax(previous: &[Option<u32>], row: &mut [Option<u32>], edge: &Edge)
     requires from { edge.now.from < length previous.now }
     requires to { edge.now.to < length row.old }

@@ -67,7 +67,7 @@ fn in_order(alloc: Global, states: u32, edges: &[Edge]) -> Result<Vec<u32>, Allo
     Ok(order)
 }
 
-/// A rank for each state, which should fall along each edge; or `None` if some state can be reached from a cycle.
+/// A rank for each state, which should fall along each edge; or `None` if the graph has a cycle.
 pub(crate) fn sought_ranks(
     alloc: Global,
     states: u32,

@@ -96,8 +96,8 @@ pub(crate) struct Steep {
     pub mean: Ratio,
 }
 
-/// Compares the state in `best` with `state`, for which the greatest mean of a rise is `here`. Returns the one for which
-/// this greatest mean is smaller.
+/// Compares the state in `best` with `state`, for which the greatest mean of a rise is `here`. Returns the one for which this
+/// greatest mean is smaller. If `here` is `None`, this is `best`; else, if `best` is `None`, it is `state`.
 fn gentler(best: Option<Steep>, state: u32, here: Option<Ratio>) -> Option<Steep>
     requires best { MatchOption best ⊤ (λ b. (b.mean.weight < 2 ^ 32) × (b.mean.length < 2 ^ 31)) }
     requires here { MatchOption here ⊤ (λ h. (h.weight < 2 ^ 32) × (h.length < 2 ^ 31)) }
@@ -180,7 +180,7 @@ pub(crate) fn potentials(
     Ok(potentials)
 }
 
-/// The height of the state: the greatest number of edges, below `last`, of a walk to the state.
+/// The height of the state: the greatest `k` below `last` such that a walk of `k` edges leads to the state.
 fn height(levels: &[Level], last: usize, state: u32) -> usize
     requires last { 0 < last }
     requires tabulated { IsTabulated levels.now last state }

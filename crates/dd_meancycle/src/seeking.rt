@@ -1,7 +1,7 @@
-//! The search for a cycle of least mean and for potentials (after E. Lawler, 1976). It takes the mean of the last cycle that
-//! it found, and lowers potentials along the edges until, for this mean, none can be lowered. For each state, the last edge
-//! along which its potential was lowered is marked. If marked edges form a cycle, this cycle has a smaller mean, and the search
-//! goes on with it. The result is checked afterwards, so no contract says what it is.
+//! The search for a cycle of least mean and for potentials (after E. Lawler, 1976). For the mean of the last cycle that it
+//! found, it lowers potentials along the edges, in rounds over all edges, until none can be lowered. For each state, the last
+//! edge along which its potential was lowered is marked. If marked edges form a cycle after a round, this cycle has a smaller
+//! mean, and the search starts again with it. The result is checked afterwards, so no contract says what it is.
 
 use crate::edges::Edge;
 use crate::rises::{Ratio, reduced};
@@ -81,8 +81,8 @@ fn parent(parents: &[Option<Edge>], state: u32) -> Option<Edge> {
     }
 }
 
-/// A state on a cycle of marked edges, if there is one. `seen` holds, for each state, the number of the walk that passed it,
-/// or 0.
+/// A state on a cycle of marked edges, if there is one. From each state with a marked edge to it, a walk goes back along marked
+/// edges. `seen` holds, for each state, the number of the walk that passed it, or 0.
 fn state_on_cycle(alloc: Global, parents: &[Option<Edge>]) -> Result<Option<u32>, AllocError> {
     let mut seen = vec![in alloc; 0u32; parents.len()]?;
     let mut mark = 0;

@@ -53,9 +53,9 @@ fn cycle_from(alloc: Global, path: &[Edge], start: usize) -> Result<Vec<Edge>, A
     reversed(alloc, &path[start..])
 }
 
-/// A cycle on a lightest walk of `last` edges to the state. The walk is followed back from the state until it comes to some
-/// state for the second time. `path` holds the edges that have been followed so far. For each state that the path has passed,
-/// `seen` holds the state's place on the path.
+/// A cycle on a lightest walk of `last` edges to the state; empty if no walk of this length leads there. The walk is followed
+/// back from the state until it comes to some state for the second time. `path` holds the edges that have been followed so
+/// far. For each state that the path has passed, `seen` holds the state's place on the path.
 pub(crate) fn cycle_on_walk(
     alloc: Global,
     edges: &[Edge],

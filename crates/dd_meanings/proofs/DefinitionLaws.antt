@@ -17,11 +17,11 @@ use Rattle.dd_meanings.proofs.{Nothing.parts, Nothing.none_at, NameLaws.is_new, 
 use Rattle.dd_meanings.proofs.MadeLaws.{cases_made, composition_made}
 use Rattle.dd_formula.specs.declared.automaton.Automaton.TheVariants as automaton
 
--- the rules of a script have the script's dimension, nodes and symbols
+-- the script's topology and its sets of allowed symbols have the script's dimension, nodes and symbols
 same_numbers : (k : Known) → IsSound k → numbers_over k.setting.topology k.setting.sets ≡ script_numbers k.setting
 same_numbers k sound = rw sound.setting.alphabet refl
 
--- the automaton that was made is the one that is meant, and it is well formed and fits the script
+-- the automaton that was made is the one that is meant; it exceeds no limit, its name is new, and it is well formed and fits the script
 abbrev pub IsDefined : Context → Word → Automaton → Automaton → Type 0
 IsDefined x called made whole =
     ((automaton_faults x whole ≡ []) × (Meaning.Automaton called made ≡ Meaning.Automaton called whole)) × (IsNew x called × IsAutomatonOf x.known.setting whole)

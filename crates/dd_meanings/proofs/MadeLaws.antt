@@ -1,4 +1,5 @@
--- The rules in an automaton are made over the script's topology and the symbols that its nodes allow, if those in its parts are.
+-- The rules of an automaton's cases are made over the script's topology and the symbols that its nodes allow. So are the rules in a composition, if
+-- the rules in both its parts are.
 use Rattle.std.proofs.Common.{◌≡◌, ℕ, List, ◌++◌, map, refl, ap, sym, ◌∙◌}
 use Rattle.std.proofs.lemmas.List.Elements.{All-map, All-append}
 use Rattle.std.specs.List.{All}

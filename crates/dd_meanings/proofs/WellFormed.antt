@@ -22,14 +22,14 @@ all_without : {X Y F : Type 0} (p : Y → Bool) (h : X → Y) (g : X → List F)
 all_without p h g each xs none = list_all-map p h xs ∙ list_all-from_AllPass (λ x. p (h x)) xs (all_where (λ x. p (h x) ≡ true) g each xs none)
 
 module _ (x : Context) (same : x.known.setting.topology.nodes ≡ length x.known.setting.nodes) (alphabet : x.known.setting.sets.symbols ≡ length x.known.setting.symbols) where
-  -- whether the formula's numbers are in range, if this many variables are in scope
+  -- whether the formula's numbers are in range, if this many variables (with `o`) are in scope
   abbrev its_fits : Formula → ℕ → Bool
   its_fits = formula_fits x.known.setting.topology x.known.setting.sets.symbols
 
   abbrev symbol : ℕ → Bool
   symbol n = nat_lt n x.known.setting.sets.symbols
 
-  -- the formula's numbers are in range, if k variables are in scope, and the formula is at most d deep
+  -- the formula is at most d deep, and its numbers are in range if k variables are in scope
   abbrev Fine : Formula → ℕ → ℕ → Type 0
   Fine f k d = (its_fits f k ≡ true) × (depth f ≤ d)
 

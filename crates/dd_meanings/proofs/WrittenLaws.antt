@@ -1,4 +1,4 @@
--- The body of a command that was read, and the depth of its cases.
+-- A command that was read has a body: the tokens after its first word. The conditions of its cases are at most 64 deep.
 use Rattle.std.proofs.Common.{◌≡◌, ℕ, ◌≤◌, List, [], ◌∷◌, subst}
 use Rattle.std.proofs.lemmas.List.Elements.{All-nil, All-cons}
 use Rattle.std.specs.List.{All}

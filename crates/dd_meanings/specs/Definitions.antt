@@ -1,5 +1,5 @@
--- What definitions mean, and which limits the counts of rules and automata exceed. x is the context of the command: its text, and what the script
--- has said before it.
+-- What definitions mean, and which limits the counts of rules and automata exceed. x is the context of the command: the text of the script, and what
+-- the script has said before the command.
 use Rattle.std.specs.Prelude.{ℕ, List, [], ◌∷◌, ◌++◌, map, not, Option, unwrap_or}
 use Rattle.std.specs.List.{slice_get}
 use Rattle.dd_pattern.specs.{Periods.periods_of as with_shear, Tile.Tile, Tile.tile}
@@ -40,7 +40,7 @@ composition_of x automata outer inner = automaton.Composed (automaton_named x au
 abbrev pub configuration_periods : List ℕ → Vector → List ℕ
 configuration_periods bytes v = period_at bytes v 0 ∷ period_at bytes v 1 ∷ period_at bytes v 2 ∷ []
 
--- a configuration, with its symbols in cell order; the shear is 0 if none is given
+-- a configuration, with its symbols in cell order (by z, then y, then x, then the node); the shear is 0 if none is given
 abbrev pub tile_of : Context → Vector → Option Vector → List Name → Tile
 tile_of x periods shear symbols =
     tile (dimension_of x.known) (with_shear (configuration_periods x.text periods) (shear_of x.text shear)) x.known.setting.topology.nodes (map (symbol_of x) symbols)
@@ -51,7 +51,7 @@ tile_of x periods shear symbols =
 abbrev pub rule_counts : LocalRule → Counted
 rule_counts r = record { reads = reads_at r; instances = λ a. instances (expansion_at r a); depth = 0 }
 
--- the limits that these counts exceed, in the order in which they are tested: instances, reach, depth
+-- the limits that these counts exceed, in the order in which they are tested: on instances, on reach (how far away cells are read), and on depth
 abbrev pub count_faults : ℕ → Counted → List Fault
 count_faults nodes f = over (not (is_few nodes f)) Limit.Instances ++ (over (not (is_short nodes f)) Limit.Reach ++ over (not (is_shallow f)) Limit.Depth)
 

@@ -1,7 +1,8 @@
-//! The meanings of commands whose texts have no faults. The commands of the header give a topology, the names of nodes and symbols,
-//! the symbols that a node allows, weights and limits. The commands after it define rules, automata and configurations, and ask
-//! queries. A rule or an automaton is refused here if it has too many instances (roughly, the parts of its formulas once these are
-//! written without variables), reads a cell that is too far away, or is too deep (nests too many compositions).
+//! The meanings of commands whose texts have no faults. The commands of the header give a topology, the names of nodes and
+//! symbols, the symbols that a node allows, the weights of symbols, and the limits of the searches. The commands after it
+//! define rules, automata and configurations, and ask queries. A rule or an automaton is refused here if it has too many
+//! instances (roughly, the parts of its formulas once these are written without variables), reads a cell that is too far away,
+//! or is too deep (nests too many compositions).
 #![tactic(auto, using(crate::proofs::Nothing::parts))]
 
 mod atoms;

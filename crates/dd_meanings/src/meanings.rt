@@ -15,8 +15,9 @@ use dd_known::Context;
 use dd_query::ask;
 use std::alloc::Global;
 
-/// What a command without faults means. `automata` are the automata that were defined before it. A command that defines a rule or
-/// an automaton is refused if the rule or automaton has too many instances, reads a cell that is too far away, or is too deep.
+/// What a command without faults means. `automata` are the automata that were defined before it, in the order of their
+/// definitions. A command that defines a rule or an automaton is refused if the rule or automaton has too many instances, reads
+/// a cell that is too far away, or is too deep.
 pub fn mean(
     alloc: Global,
     context: &Context,

@@ -21,7 +21,8 @@ fold_keeps : {X : Type 0} (step : X → ℕ → X) (Q : X → Type 0) → ((now 
 fold_keeps step Q keeps [] x q = q
 fold_keeps step Q keeps (s ∷ xs) x q = fold_keeps step Q keeps xs (step x s) (keeps x s q)
 
--- if each step keeps L and Q, L holds at the start, and one step of the fold brings about Q where L holds, then Q holds after the fold
+-- Suppose that each step keeps L and keeps Q, and that L holds at the start. If some step of the fold yields Q wherever L holds, then Q holds after
+-- the fold.
 fold_brings : {X : Type 0} (step : X → ℕ → X) (L Q : X → Type 0) → ((now : X) (s : ℕ) → L now → L (step now s)) → ((now : X) (s : ℕ) → Q now → Q (step now s)) →
     (t : ℕ) → ((now : X) → L now → Q (step now t)) → (xs : List ℕ) (x : X) → Contains xs t → L x → Q (fold step x xs)
 fold_brings step L Q stands keeps t brings [] x c l = absurd (Contains-nil t c)

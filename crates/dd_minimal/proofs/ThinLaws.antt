@@ -6,11 +6,11 @@ use Rattle.std.specs.{Prelude.IfSome, List.All}
 use Rattle.dd_minimal.specs.{Patterns.is_kept, Patterns.agrees, Patterns.whole, Patterns.left_out, Minimal.thinned}
 use Rattle.dd_minimal.specs.finding.Numbers.{KeepsBelow}
 
--- each filling that agrees with the second pattern agrees with the first
+-- p is weaker than q: each filling that agrees with q agrees with p
 abbrev pub Weaker : List (Option ℕ) → List (Option ℕ) → Type 0
 Weaker p q = (ss : List ℕ) → agrees q ss ≡ true → agrees p ss ≡ true
 
--- if p is enough, then so is each pattern q such that every filling that agrees with q agrees with p
+-- if p is enough, and p is weaker than q, then q is enough
 abbrev pub Rises : (List (Option ℕ) → Bool) → Type 0
 Rises enough = (p q : List (Option ℕ)) → Weaker p q → enough p ≡ true → enough q ≡ true
 

@@ -30,7 +30,8 @@ pub(crate) fn outcomes(alloc: Global, rule: &Rule, node: u32) -> Result<Items<Ou
     Ok(table)
 }
 
-/// Appends the outcomes of the fillings that begin with these symbols. The cells of `rest` have no symbol yet.
+/// Appends the outcomes of the fillings that begin with these symbols, which are allowed. The cells of `rest` have no symbol
+/// yet.
 fn fill(
     rule: &Rule,
     node: u32,

@@ -20,8 +20,8 @@ pub fn needs_each()
     ensures { (r : LocalRule) (a : ℕ) (ps : List (List (Option ℕ))) → IsRule r → IsMinimalList r a ps → All (NeedsEach r a) ps }
 {}
 
-/// Does nothing. Its contract says that each listed pattern agrees with a breaking filling that agrees with no pattern
-/// listed before it.
+/// Does nothing. Its contract says that each listed pattern agrees with a breaking filling that agrees with no earlier pattern
+/// of the list.
 pub fn all_new()
     ensures { (r : LocalRule) (a : ℕ) (ps : List (List (Option ℕ))) → IsMinimalList r a ps → AreNew r a [] ps }
 {}

@@ -17,8 +17,7 @@ use dd_formula::Rule;
 use dd_values::Items;
 use std::alloc::{AllocError, Global};
 
-/// The stride of each cell: how much the number of a filling rises if the cell's symbol rises by 1. Fillings are numbered from
-/// 0 in lexicographic order, and `fillings` is how many there are.
+/// The stride of each cell. `fillings` is the number of fillings over the whole alphabet.
 pub(crate) fn strides_of(
     alloc: Global,
     rule: &Rule,

@@ -1,7 +1,6 @@
-//! Walks over the fillings that agree with a pattern. Fillings are numbered from 0 in lexicographic order. The stride of a cell
-//! is how much the number rises if the cell's symbol rises by 1. A walk begins at `from`, the number of the filling that agrees
-//! with the pattern and has the symbol 0 at every cell that the pattern leaves out. It goes on along the strides of these
-//! cells, so that they take all symbols.
+//! Walks over the fillings that agree with a pattern. A walk begins at `from`, the number of the filling that agrees with the
+//! pattern and has the symbol 0 at every cell that the pattern leaves out. It goes on along the strides of these cells, so that
+//! they take all symbols.
 ghost use Rattle.std.specs.Prelude.{◌≡◌, ◌<◌, ◌≤◌, ◌+◌, ◌*◌, ◌-◌, ◌++◌, ◌∷◌, [], true, length};
 ghost use Rattle.dd_minimal.specs.finding.Numbers.{reach};
 ghost use Rattle.dd_minimal.specs.finding.Walks.{marked, none_holds};
@@ -25,9 +24,9 @@ pub(crate) fn none_holds(symbols: u32, strides: &[usize], table: &[Outcome], fro
     true
 }
 
-/// The answer of `none_holds` for a walk along `strides` and, last, along `stride`, the stride of one more cell. If the answer
-/// is yes, this cell can be left out too. The call skips the fillings in which the cell has the symbol `kept`. The caller
-/// already knows that the rule is true under none of these with allowed symbols.
+/// The answer of `none_holds` for a walk along `strides` and then along `stride`, the stride of one more cell. If the answer is
+/// yes, this cell can be left out too. The call skips the fillings in which the cell has the symbol `kept`. The caller already
+/// knows that the rule is true under no such filling with allowed symbols.
 pub(crate) fn can_spare(
     symbols: u32,
     kept: u32,

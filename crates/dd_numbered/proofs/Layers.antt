@@ -1,4 +1,5 @@
--- A function that is defined by a fold, such as the truth of a formula, is applied to each part of a conjunction or a disjunction.
+-- The truth of a conjunction or a disjunction comes from the truth of its parts. The formula made from such an expansion has the formulas made from
+-- its parts.
 use Rattle.std.proofs.Common.{◌≡◌, ℕ, Bool, List, map, ap, sym, ◌∙◌}
 use Rattle.std.proofs.lemmas.List.Folds.{list_all-map}
 use Rattle.std.specs.List.{list_all, list_any}

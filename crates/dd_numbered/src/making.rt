@@ -16,6 +16,9 @@ impl Numbered {
     /// A list of symbols gives each cell the symbol at the cell's number. It gives no symbol to a cell that has no number, or
     /// whose number is past the end of the list. The resulting formula is true of the list exactly when the expansion is true
     /// with the symbols that the list gives.
+    ///
+    /// # Errors
+    /// `AllocError` if memory ran out.
     pub fn new<N: Numbers>(
         alloc: Global,
         expanded: &Expanded,

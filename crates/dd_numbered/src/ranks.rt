@@ -8,8 +8,8 @@ use crate::numbers::Numbers;
 use dd_lattice::Cell;
 
 /// A numbering by a list of cells in cell order. Each cell of the list has its index there as its number. Every other cell has
-/// the length of the list as its number. So a list that has one symbol for each of these cells gives no symbol to any other
-/// cell: the other cell's number is past the end.
+/// the length of the list as its number. So if there is one symbol for each cell of the list, every other cell has no symbol:
+/// its number is past the end of the symbols.
 #[derive(Drop)]
 pub struct Ranks<'a> {
     /// The cells, strictly ascending in cell order.
@@ -27,7 +27,8 @@ impl<'a> Ranks<'a> {
     }
 }
 
-/// The index, from 0, of a cell in a list of cells, or the length of the list if the cell isn't in it.
+/// The index, from 0, of a cell in a list of cells, or the length of the list if the cell isn't in it. The list must be
+/// strictly ascending in cell order.
 pub fn rank(cells: &[Cell], cell: &Cell) -> usize
     requires { IsStrictlySortedBy cell_cmp cells.now }
     ensures value { result ≡ rank cells.now cell.now }

@@ -37,7 +37,7 @@ module _ {A B : Type 0} (F : ℕ → A → Type 0) (t : ℕ → A → List ℕ) 
       let one = (law k).takes bytes (item x) rest e in
       omega (arith, ap length one.0, length-append (t k x) rest, some k x one.1)
 
-  -- one step of the induction: the claim for the rest is given
+  -- one step of the induction in `until_same`: the claim for the rest is given
   next_same : (f g k : ℕ) (bytes : List ℕ)
       → ((rest : List ℕ) → length rest < f → length rest < g → until_at entry (suc k) f rest ≡ until_at entry (suc k) g rest)
       → length bytes < suc f → length bytes < suc g → (x : Entry A B × List ℕ) → entry k bytes ≡ Ok x

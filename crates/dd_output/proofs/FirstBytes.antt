@@ -50,7 +50,7 @@ Row = Keyed IsWritable first_of
 
 -- ---- kinds whose texts begin alike
 
--- the byte after the part that the texts of two kinds share
+-- the byte after the part that the texts of two kinds share; 0 for all kinds but these six
 abbrev pub second_of : Answer → ℕ
 second_of (answer.No side periods shear symbols) = 32
 second_of (answer.Nothing steps) = 78

@@ -1,5 +1,5 @@
 -- Good forms. A good form reads exactly the texts of the values that fit, and each such text has only one value. Where reading stops, some text
--- completes what was read. A form that is made of good forms is good.
+-- completes what was read. The least text of a good form is the text of a value that fits. A form that is made of good forms is good.
 use Rattle.std.proofs.Common.{◌≡◌, ℕ, zero, suc, ◌+◌, ◌<◌, ◌≤◌, ◌^◌, List, [], ◌∷◌, ◌++◌, length, Bool, true, false, cond, inl, inr, ◌⊎◌, refl, sym, ap, subst, ◌∙◌, append_assoc, arith}
 use Rattle.std.proofs.lemmas.{Bool.eqb-true, Bool.eq-eqb, Bool.false≢true, Fmt.decimal_digit}
 use Rattle.std.proofs.lemmas.List.{length-replicate, Concat.flat_map-cons}

@@ -45,7 +45,7 @@ digit_read n b bytes is some fits =
     let cell : 48 + (b - 48) ≡ b = omega (arith, bounds.0) in
     rw (decimal_more n (b - 48) some (omega (arith, bounds.1)) fits, cell) (sym (append_assoc (decimal n) (b ∷ []) bytes))
 
--- if an end or a digit may come: which of the two was read
+-- The next byte may end the number (then b is true) or be a further digit (then c is true). The result tells which of these it is, if any.
 either_ok : {A : Type 0} (b c : Bool) (z : A) (r : Result A Stop) (d : Stop) (y : A) → cond b (Ok z) (cond c r (Err d)) ≡ Ok y
     → ((b ≡ true) × (z ≡ y)) ⊎ ((b ≡ false) × (c ≡ true) × (r ≡ Ok y))
 either_ok true c z r d y e = inl (refl, cc)

@@ -38,7 +38,7 @@ Fits = entry_fits PeriodFits EndFits
 abbrev text_of : ℕ → Entry ℕ PeriodsEnd → List ℕ
 text_of = entry_text period_text end_text
 
--- a period, or a shear
+-- the entry is a period; `IsShear` says that it is a shear
 abbrev IsPeriod : Entry ℕ PeriodsEnd → Type 0
 IsPeriod (item p) = IsWritableNumber p
 IsPeriod (last (ends n)) = IsWritableNumber n

@@ -5,8 +5,8 @@ use Rattle.std.proofs.lemmas.Bool.{cases_Bool, cond-true, cond-false, eq-eqb}
 use Rattle.std.specs.{Prelude.◌==◌, List.flat_map, List.AllByRecursion}
 use Rattle.dd_output.specs.reading.Stops.{Stop, stop, Read, ◌>>=◌, before, then_at, map_at, copies, many_at, begins, choice_at}
 
--- Where a reader stopped: a prefix was read, and with the missing text after it, it is a completion, a text of which C holds. Once the next byte is
--- appended, no text completes it.
+-- Where a reader stopped. It read the prefix `front`. With the missing text after it, `front` becomes a completion, which is a text of which C holds.
+-- With the next byte after it, the reader stops at the same place, whatever follows.
 pub record Halts {A : Type 0} (C : List ℕ → Type 0) (r : List ℕ → Read A) (bytes : List ℕ) (s : Stop) : Type 0 where
   pub front : List ℕ
   pub whole : bytes ≡ front ++ s.left

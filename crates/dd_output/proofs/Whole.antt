@@ -153,7 +153,7 @@ le_or_lt n m = elim (leb_tells n m) [
   | inr other ↦ inr other.1
 ]
 
--- of two different offsets of the same bytes, the greater one would give a longer prefix
+-- no offset n of the bytes exceeds another offset m: it would give a longer prefix
 no_less : (bytes : List ℕ) (m n : ℕ) → IsOffset bytes m → IsOffset bytes n → n ≤ m
 no_less bytes m n one two = elim (le_or_lt n m) [
   | inl le ↦ le

@@ -1,5 +1,5 @@
--- The output whose text the bytes are. If there is none, the bytes have an offset: the length of their longest prefix with which some output
--- begins.
+-- What reading the bytes gives. If they aren't the text of an output, they have an offset: the length of their longest prefix with which some
+-- output begins.
 use Rattle.std.specs.Prelude.{◌≡◌, ℕ, ◌<◌, ◌≤◌, List, ◌++◌, length, take, Result, Ok, Err}
 use Rattle.dd_output.specs.declared.{output.Output.Output, fault.CertificateFault.CertificateFault}
 use Rattle.dd_output.specs.{Outputs.output_text, Outputs.IsWritableOutput, Outputs.IsWellFormed, reading.Whole.completion}

@@ -20,7 +20,7 @@ end_line = codes "end\n"
 abbrev pub output_text : Output → List ℕ
 output_text o = header o.script ++ (answers_text 1 o.answers ++ end_line)
 
--- an output can hold this script and these answers
+-- the length of the script, the number of answers, and each answer are within bounds
 abbrev pub IsWritableOutput : Output → Type 0
 IsWritableOutput o = (length o.script ≤ most_script) × (length o.answers ≤ most_commands) × All IsWritable o.answers
 

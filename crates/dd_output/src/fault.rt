@@ -8,9 +8,8 @@ use thiserror::Error;
 /// Why a whole output could not be read.
 #[derive(Clone, Copy, Debug, PartialEq, Eq, Error)]
 pub enum CertificateFault {
-    /// The bytes aren't the text of an output. Some output begins with this many of them. If there are more bytes, no output
-    /// begins with one more of them.
-    #[error("no output goes on after {0} bytes")]
+    /// The bytes aren't the text of an output. This is the length of their longest prefix with which some output begins.
+    #[error("not an output: wrong or missing byte after the first {0}")]
     Malformed(u64),
     /// Memory ran out.
     #[error("out of memory")]

@@ -1,5 +1,5 @@
-//! Reads answers about the least weight of a configuration with given periods: `LEAST` with this weight, or `NONE` if there is no
-//! such configuration.
+//! Reads answers about the least weight of the configurations that obey a rule and have given periods: `LEAST` with this
+//! weight, or `NONE` if there are no such configurations. The weight of such a configuration is that of the box that repeats.
 ghost use Rattle.std.specs.Prelude.{◌≡◌};
 ghost use Rattle.dd_output.specs.reading.Stops.{Gives, choice_at};
 ghost use Rattle.dd_output.specs.reading.Grammar as grammar;

@@ -1,5 +1,5 @@
-//! Reads words, numbers and raw bytes. Each number is read together with the byte that ends it, so no number's text is a prefix
-//! of another's.
+//! Reads words, numbers and raw bytes. Each number is read together with the byte that ends it. With this byte, no number's
+//! text is a prefix of another's.
 ghost use Rattle.std.specs.Prelude.{◌≡◌, ◌<◌, ◌≤◌, ◌^◌, ◌-◌, ◌*◌, ◌+◌, true, length, [], IfOk, nat_le};
 ghost use Rattle.dd_output.specs.reading.Stops.{Gives, is_digit, goes_on, starts, word_at, digits_at, number_at, bytes_at, begins};
 
@@ -76,7 +76,7 @@ fn starts(low: u64, bound: u64, byte: u8) -> bool
 }
 
 /// The rest of a number whose first digit, `first`, was already read. Returns the whole number, the byte that ends it, and the
-/// bytes after that. The byte that ends it is `end` or `other`.
+/// bytes after that. The number is at most `bound`. The byte that ends it is `end` or `other`.
 fn digits_at(
     bytes: &[u8],
     bound: u64,

@@ -39,8 +39,8 @@ fn query_word(alloc: Global, index: u64) -> Result<Vec<u8>, ReadFault>
     Ok(word)
 }
 
-/// The answer to the query with this index, or `None` for the end. Indices start at 0. The index is less than the number of
-/// answers that an output may have.
+/// The answer to the query with this index, or `None` for the end. Indices start at 0. The index is less than the greatest
+/// number of answers that an output may have.
 #[tactic(auto, unfolding(crate::specs::reading::Whole::open_entry))]
 fn open_entry(alloc: Global, index: u64, bytes: &[u8]) -> Result<(Option<Answer>, &[u8]), ReadFault>
     requires { index < most_commands }

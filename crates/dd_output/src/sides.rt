@@ -35,7 +35,7 @@ fn period_at(bytes: &[u8]) -> Result<(PeriodEntry, &[u8]), ReadFault>
     }
 }
 
-/// The shear, after the word `shear`.
+/// The word `shear`, and then the shear.
 fn shear_at(bytes: &[u8]) -> Result<(PeriodEntry, &[u8]), ReadFault>
     ensures { Gives (λ x. (period_seen x.0, x.1.now)) result (shear_at bytes.now) }
 {

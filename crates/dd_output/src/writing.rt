@@ -7,8 +7,8 @@ use crate::output::Output;
 use dd_certificate::{Answer, write_answer};
 use std::alloc::{AllocError, Global};
 
-/// The text before the first answer: the name of the format, the length of the script in bytes, and the script. Fails only if
-/// memory runs out.
+/// The text before the first answer: the name of the format, the length of the script in bytes, and the script with a line feed
+/// after it. Fails only if memory runs out.
 pub fn header(alloc: Global, script: &[u8]) -> Result<Vec<u8>, AllocError>
     ensures { IfOk result (λ text. text.items ≡ header script.now) }
 {

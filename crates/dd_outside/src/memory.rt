@@ -85,8 +85,8 @@ impl MemorySource {
     }
 }
 
-// Copies the bytes from `at` on to the start of `into`: as many as fit, but at most `step`. Moves `at` past the copied bytes, and
-// returns their number.
+// Copies bytes to the start of `into`, beginning with the byte at the index `at`: as many as are left and fit, but at most
+// `step`. Moves `at` past the copied bytes, and returns their number.
 pub(crate) fn give(bytes: &[u8], at: &mut usize, step: usize, into: &mut [u8]) -> usize
     requires in_range { at.old ≤ length bytes.now }
     requires moves { 0 < step }

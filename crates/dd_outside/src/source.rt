@@ -21,7 +21,8 @@ pub trait Source {
     /// slice is empty.
     ///
     /// # Errors
-    /// `Failed` if the read failed. Then nothing was read, and the count of faults is one higher. A later read may succeed.
+    /// `Failed` if the read failed. Then nothing was read, and the count of faults rose, unless it stands at 2^64 - 1. A later
+    /// read may succeed.
     fn read(&mut self, into: &mut [u8]) -> Result<usize, Failed>
         ensures bound { ReadsAtMost result into.new }
         ensures bytes { ReadConsumes (left self.old) (left self.new) result into.new }

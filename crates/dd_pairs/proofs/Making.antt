@@ -20,7 +20,7 @@ module _ (k : Known) where
   pub none : ArePairs k [] []
   none = record { are = refl; sound = record { formed = All-nil (λ c. IsPair k.setting (pair_of k.setting c)); faultless = refl } }
 
-  -- after one more comparison
+  -- `HavePairs` still holds after one more comparison, if the pair of this comparison is made
   more_sound : (cs : List ComparisonOf) (c : ComparisonOf) (pair : Pair) → HavePairs k cs → IsMade k.setting c (comparison_faults k c) pair → HavePairs k (cs ++ c ∷ [])
   more_sound cs c pair before made = record {
     formed = All-push (λ c. IsPair k.setting (pair_of k.setting c)) cs c before.formed made.formed;

@@ -17,7 +17,7 @@ pub record IsMade (s : Setting) (c : ComparisonOf) (faults : List Fault) (made :
   pub formed : IsPair s (pair_of s c)
   pub faultless : faults ≡ []
 
--- the pair is made, or it is refused for the first of these faults
+-- the pair is made, or it is refused for the first of these faults, or memory runs out
 abbrev pub Makes : Setting → ComparisonOf → List Fault → Result Pair Refusal → Type 0
 Makes s c faults result = MatchResult result (IsMade s c faults) (λ e. Refuses e (earliest faults))
 
@@ -31,6 +31,6 @@ pub record ArePairs (k : Known) (cs : List ComparisonOf) (made : List Pair) : Ty
   pub are : made ≡ map (pair_of k.setting) cs
   pub sound : HavePairs k cs
 
--- the pairs are made, or they are refused for the first limit that is exceeded
+-- the pairs are made, or they are refused for the first limit that is exceeded, or memory runs out
 abbrev pub MakesAll : Known → List ComparisonOf → Result (List Pair) Refusal → Type 0
 MakesAll k cs result = MatchResult result (ArePairs k cs) (λ e. Refuses e (earliest (faults_in_order k cs)))

@@ -56,8 +56,8 @@ impl Pair {
     }
 }
 
-/// The conjugacy of two rules, from its four pairs. They are, in order, for the image under the map, for the image under the
-/// map back, for the map followed by the map back, and for the map back followed by the map.
+/// The conjugacy of two rules by a map from `from` to `to` and a map back. Its four pairs are, in order, for the image under
+/// the map, for the image under the map back, for the map followed by the map back, and for the map back followed by the map.
 pub fn conjugacy<'a>(from: &'a Rule, to: &'a Rule, pairs: &'a [Pair]) -> Conjugacy<'a>
     requires { length pairs.now ≡ 4 }
     ensures { IsConjugacyBy from.now to.now pairs.now result }
@@ -76,7 +76,7 @@ pub fn conjugacy<'a>(from: &'a Rule, to: &'a Rule, pairs: &'a [Pair]) -> Conjuga
     }
 }
 
-/// The limit that a script exceeds if one of its questions exceeds this limit on its work.
+/// The limit on scripts that corresponds to this limit on the work of a question.
 pub fn limit_of(excess: Excess) -> Limit
     ensures { result ≡ limit_of excess }
 {

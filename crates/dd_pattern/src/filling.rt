@@ -29,8 +29,8 @@ impl Model for Filling {
 }
 
 impl Filling {
-    /// The filling of these cells with these symbols, in the same order. The cells must be strictly ascending in cell order. The
-    /// call allocates nothing.
+    /// The filling of these cells with these symbols, in the same order. There must be as many symbols as cells, and the cells
+    /// must be strictly ascending in cell order. The call allocates nothing.
     pub fn new(cells: Vec<Cell>, symbols: Vec<u32>) -> Filling
         requires ascending { IsStrictlySortedBy cell_cmp cells.items }
         requires as_many { length symbols.items ≡ length cells.items }
@@ -75,8 +75,8 @@ impl Filling {
         Ok(Some(Filling { cells, symbols }))
     }
 
-    /// The sum of the symbols' weights, where the symbol `s` has the weight `weights[s]`. The filling must have at most 2^32
-    /// cells.
+    /// The sum of the symbols' weights, where the symbol `s` has the weight `weights[s]`. Each symbol of the filling must have
+    /// a weight, and no weight may exceed 1,000. The filling must have at most 2^32 cells.
     pub fn weight(&self, weights: &[u32]) -> u64
         requires weights { AreWeights weights.now self.now.symbols }
         requires few { length self.now.cells ≤ 4294967296 }

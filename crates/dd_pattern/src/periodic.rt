@@ -159,7 +159,8 @@ impl Periodic {
         self.symbols.as_slice()
     }
 
-    /// The sum of the weights of the symbols of the fundamental box, where the symbol `s` has the weight `weights[s]`.
+    /// The sum of the weights of the symbols of the fundamental box, where the symbol `s` has the weight `weights[s]`. Each of
+    /// these symbols must have a weight, and no weight may exceed 1,000.
     pub fn weight(&self, weights: &[u32]) -> u64
         requires { AreWeights weights.now self.now.symbols }
         ensures { result ≡ total_weight weights.now self.now.symbols }
@@ -198,7 +199,8 @@ impl Periodic {
 }
 
 impl Periodic {
-    /// The cell of the fundamental box whose symbol has the index `number` in the list of symbols.
+    /// The cell of the fundamental box whose symbol has the index `number` in the list of symbols. The index must be less than
+    /// the list's length.
     #[tactic(auto, using(crate::specs::lemmas::BoxLaws::in_box, crate::specs::lemmas::BoxLaws::index_of_cell))]
     pub fn cell_at(&self, number: usize) -> Cell
         requires { number < length self.now.symbols }

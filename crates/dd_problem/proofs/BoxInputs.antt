@@ -21,11 +21,11 @@ use Rattle.dd_problem.specs.lemmas.NumberedWires.{turns_below, wire_there, wire_
 use Rattle.dd_problem.specs.lemmas.Filtered.{range_get}
 use Rattle.dd_problem.proofs.Matching.{Gives, GoalMatches, goal_is_wired, wired_is_problem}
 
--- the box lies in the range of positions
 pub spread_most : (b : Bool) (n : ℕ) → spread b n ≤ n
 spread_most true n = omega arith
 spread_most false n = omega arith
 
+-- the box lies in the range of positions
 pub box_in_range : (d n : ℕ) (p : Place) → n ≤ 1048576 → IsWithin (centred d n) p → IsInRange p
 box_in_range d n p small h =
     let x = spread_most (is_active d 0) n in
@@ -35,7 +35,6 @@ box_in_range d n p small h =
     let u = h.1 in
     ((omega (arith, ints, x, l, u), omega (arith, ints, x, l, u)), (omega (arith, ints, y, l, u), omega (arith, ints, y, l, u)), (omega (arith, ints, z, l, u), omega (arith, ints, z, l, u)))
 
--- the bound on the count of the question's clauses keeps the radius small
 pub volume_wide : (d n : ℕ) → 1 ≤ d → 2 * n + 1 ≤ volume (centred d n)
 volume_wide d n some =
     let b = centred d n in
@@ -45,6 +44,7 @@ volume_wide d n some =
     let all : span b.low.x b.high.x * 1 ≤ volume b = mul-le (span b.low.x b.high.x) 1 (span b.low.x b.high.x) (span b.low.y b.high.y * span b.low.z b.high.z) (omega arith) (omega (arith, rest)) in
     omega (arith, wide, all)
 
+-- the bound on the count of the question's clauses keeps the radius small
 pub radius_small : (x : LocalRule) (g : GoalOf) (n : ℕ) → IsRule x → question_clauses x g (volume (centred x.dimension n)) ≤ most_clauses → n ≤ 1048576
 radius_small x g n rule few =
     let wide = volume_wide x.dimension n rule.dimension.0 in
@@ -59,7 +59,6 @@ box_made x g n o rule few is = is ∙ ap (λ b. if b then Some (centred x.dimens
 pub box_ascends : (x : LocalRule) (n : ℕ) → IsRule x → IsStrictlySortedBy cell_cmp (box_cells x n)
 box_ascends x n rule = cells_ascending (centred x.dimension n) x.nodes (bounds_ordered x.dimension n) rule.nodes.0
 
--- the wires of the box's cells
 pub member_is_box_cell : (x : LocalRule) (n : ℕ) (c : Cell) → Contains (box_cells x n) c → is_box_cell x n c ≡ true
 member_is_box_cell x n c h =
     (box_cell_at x n h.0 c (slice_get-get_or (box_cells x n) h.0 c h.1 ∙ ap (λ d. Some d) h.2)).0
@@ -72,6 +71,7 @@ not_both : (b : Bool) → b ≡ true → b ≡ false → ⊥
 not_both true h k = cc
 not_both false h k = cc
 
+-- the wires of the box's cells
 box_wire : (x : LocalRule) (n : ℕ) → IsRule x → (c : Cell) (s : ℕ) → s < x.symbols →
     wire_of (in_turn x.symbols (box_cells x n)) c s ≡ cond (is_box_cell x n c) (Some (signal_of (input x.symbols (box_index x n c) s))) None
 box_wire x n rule c s below =

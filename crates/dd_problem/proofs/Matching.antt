@@ -20,7 +20,7 @@ use Rattle.dd_problem.specs.pushing.Pushed.{are_both_wired, is_wired_at, is_goal
 use Rattle.dd_problem.specs.lemmas.{RangesLeft.row_within, Reading.IsLayout, Wiring.HasReads}
 use Rattle.dd_values.specs.lemmas.Booleans.{same_bool}
 
--- at the cells that pass the test p, relative to v, the wires are the layout's inputs
+-- the wires of each cell that passes the test p, relative to v, are the layout's inputs; there are none if the layout does not have the cell
 abbrev pub Gives : Wiring → Layout → ℕ → (Cell → Bool) → Place → Type 0
 Gives w l m p v = (c : Cell) (s : ℕ) → p c ≡ true → s < m → wires_near w v c s ≡ cond (l.has (shifted v c)) (Some (wire l m v c s)) None
 
@@ -87,7 +87,7 @@ asks r m p a ok same node reads =
 reads_there : (l : Layout) (r : LocalRule) (d : Cell) → IsRule r → leaves_pass (λ c s. l.has (shifted d.position c)) (expansion_at r d.node) ≡ list_all (λ c. l.has (shifted d.position c)) (reads_at r d.node)
 reads_there l r d ok = leaves_are_reads r.edges r.symbols ok.symbols.0 r.formula (origin_at d.node ∷ []) (λ c. l.has (shifted d.position c))
 
--- the cells that the rule reads at d pass the test p, and the wires around d of cells that pass it are the layout's
+-- The cells that the rule reads at d pass the test p. The wires of the cells that pass it, relative to d, are the layout's inputs.
 pub record Matches (w : Wiring) (l : Layout) (m : ℕ) (p : Cell → Bool) (r : LocalRule) (d : Cell) : Type 0 where
   pub node : d.node < r.nodes
   pub gives : Gives w l m p d.position
@@ -103,12 +103,12 @@ pub same_maker : (w : Wiring) (l : Layout) (m : ℕ) (p : Cell → Bool) (r : Lo
 same_maker w l m p r d ok same layout match fit =
     made_there w l m p d.position layout match.gives (expansion_at r d.node) (asks r m p d.node ok same match.node match.reads) (reads_there l r d ok ∙ fit)
 
--- the premise at all places
 kept_same : (a b : Cell → Part) (d : Cell) (t u : Bool) (ds es : List Cell) → t ≡ u → (u ≡ true → a d ≡ b d) → map a ds ≡ map b es →
     map a (cond t (d ∷ ds) ds) ≡ map b (cond u (d ∷ es) es)
 kept_same a b d t true ds es test here rest = rw test (λ i. here refl i ∷ rest i)
 kept_same a b d t false ds es test here rest = rw test rest
 
+-- the premise at all places
 parts_same : (w : Wiring) (l : Layout) (x : LocalRule) (n : ℕ) (cells : List Cell) →
     ((k : ℕ) (d : Cell) → slice_get cells k ≡ Some d → (is_wired_at w n x d ≡ fits_in l x d) × (fits_in l x d ≡ true → wired_part w x d ≡ premise_part l x d)) →
     wired_parts w n x cells ≡ map (premise_part l x) (filter (fits_in l x) cells)

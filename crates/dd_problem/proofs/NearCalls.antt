@@ -14,7 +14,7 @@ use Rattle.dd_problem.specs.{Layouts.cells_in, pushing.Near.read_cells, pushing.
 use Rattle.dd_problem.specs.lemmas.Filtered.{some_same}
 use Rattle.dd_problem.proofs.{TorusInputs.sum_in_range, TorusReach.facts_near, TorusReach.radius_is}
 
--- the sum of two positions exists
+-- a position at most 16 from the origin can be moved by a position well within the range
 pub sum_there : (p v : Place) (o : Option Place) → extent p ≤ 16 → extent v ≤ 1048560 → o ≡ (if is_in_range (moved p v) then Some (moved p v) else None) → o ≡ Some (moved p v)
 sum_there p v o near wide is = is ∙ ap (λ b. if b then Some (moved p v) else None) (test_from_in_range (moved p v) (sum_in_range p v near wide))
 
@@ -34,7 +34,6 @@ moved_more v before now new cells i c d below is made so_far pushed =
 pub moved_all : (v : Place) (before now : List Cell) (cells : List Cell) (i : ℕ) → length cells ≤ i → now ≡ before ++ map (shifted v) (take i cells) → now ≡ before ++ map (shifted v) cells
 moved_all v before now cells i past so_far = so_far ∙ ap (λ cs. before ++ map (shifted v) cs) (take_all i cells past)
 
--- the box of a goal's least radius
 spread_few : (b : Bool) (n : ℕ) → n ≤ 16 → spread b n ≤ 16
 spread_few true n small = small
 spread_few false n small = omega arith
@@ -56,6 +55,7 @@ box_few d n nodes small few =
     let most : volume b * nodes ≤ 143748 = mul-le (volume b) nodes 35937 4 all few in
     omega (arith, most)
 
+-- the box of a goal's least radius
 module _ (x : LocalRule) (g : GoalOf) (rule : IsRule x) (told : HasGoalFacts x g) (least d nodes : ℕ) (is : IsLeastRadius g least) (dim : d ≡ x.dimension) (same : nodes ≡ x.nodes)
     (o : Option Bounds) (made : o ≡ (if nat_le least 1048576 then Some (centred d least) else None)) where
   far : least ≡ goal_reach g
@@ -82,10 +82,10 @@ module _ (x : LocalRule) (g : GoalOf) (rule : IsRule x) (told : HasGoalFacts x g
     pub box_is : cells_in b nodes ≡ box_cells x (goal_reach g)
     box_is = ap (cells_in b) same ∙ (ap (λ c. cells_in c x.nodes) bounds ∙ (ap (λ k. cells_in (centred k least) x.nodes) dim ∙ ap (λ k. cells_in (centred x.dimension k) x.nodes) far))
 
--- what the premise reads at one more cell
 pub reads_near : (x : LocalRule) (a : ℕ) (cs : List Cell) → IsRule x → a < x.nodes → cs ≡ cells_at x a → list_all is_near cs ≡ true
 reads_near x a cs rule node read = ap (list_all is_near) read ∙ (list_all-in_order is_near (reads_at x a) ∙ rule.short a node)
 
+-- what the premise reads at one more cell
 pub near_more : (x : LocalRule) (box now new reads : List Cell) (cells : List Cell) (i : ℕ) (d : Cell) → i < length cells → d ≡ get_or cells i d → reads ≡ cells_at x d.node →
     now ≡ box ++ flat_map (read_cells x) (take i cells) → new ≡ now ++ map (shifted d.position) reads → new ≡ box ++ flat_map (read_cells x) (take (i + 1) cells)
 near_more x box now new reads cells i d below is read so_far pushed =

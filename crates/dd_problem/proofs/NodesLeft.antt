@@ -52,6 +52,7 @@ node_split maker count turn node n h = ap (λ r. all_made (map maker r) n) (rang
 nodes_end : (maker : ℕ → Maker) (count : ℕ) (turn : Signal → Literal) (node n : ℕ) → count ≤ node → nodes_made maker count node n ≡ record { signals = []; gates = [] }
 nodes_end maker count turn node n h = ap (λ r. all_made (map maker r) n) (range_ends node count h)
 
+-- there is room for the gates of the next node
 pub node_few : (maker : ℕ → Maker) (count : ℕ) (turn : Signal → Literal) (node most : ℕ) (start now : Encoding) (literals : List Literal) → NodesLeft maker count turn node start now literals →
     node < count → size (with_parts start (turned_part maker count turn ∷ [])).circuit ≤ most → size now.circuit + length (maker node (size now.circuit)).gates ≤ most
 node_few maker count turn node most start now literals p h few =
@@ -114,7 +115,7 @@ node_step maker count turn node start now new literals lits m s l p h is added s
           ∙ (ap (λ e. with_gates e rest.gates) (sym added) ∙ ap (λ o. with_gates new (nodes_made maker count (node + 1) o).gates) (sym n))));
     }
 
--- the literals of signals of the circuit
+-- the literal of a signal of the circuit is in range, and so is its negation
 pub false_in_range : (n : ℕ) (s : Signal) (o l : Literal) → IsSignal n s → o ≡ literal_of s → l ≡ negation o → (l ≡ opposing s) × IsLiteralInRange n l
 false_in_range n s o l ok positive negated =
     let var : l.variable ≡ s.variable = ap (λ (k : Literal). k.variable) (negated ∙ ap negation positive) in

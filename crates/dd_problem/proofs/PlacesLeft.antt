@@ -16,7 +16,7 @@ use Rattle.dd_problem.specs.Encodings.{Encoding, with_clause, with_gates, with_m
 use Rattle.dd_problem.specs.pushing.Pushed.{AreInputs, is_wired_at, wired_part, wired_parts}
 use Rattle.dd_problem.specs.lemmas.Growing.{same_encoding, extended_size, extended_by_none, with_parts-append}
 
--- a signal of the first n variables is one of the first m, if m is not smaller
+-- a wire with one of the first n variables has one of the first m, if m is not smaller
 wire_same : (n m : ℕ) (o : Option Signal) → ((s : Signal) → o ≡ Some s → IsSignal n s) → n ≤ m → is_wire m o ≡ is_wire n o
 wire_same n m None within more = refl
 wire_same n m (Some s) within more =

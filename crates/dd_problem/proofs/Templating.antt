@@ -55,7 +55,7 @@ same_reads n m w x d rule node near ok full more =
     row_full n m x.symbols (is_in_range (moved c.position v)) (signals_of w (shifted v c)) s more (full (shifted v c)) (ok (shifted v c)))
     h)
 
--- the test of the cells that are read tells whether each leaf has its wire
+-- `are_reads_wired`, with m variables, tells whether each leaf has its wire among the first n
 pub reads_tell : (n m : ℕ) (w : Wiring) (x : LocalRule) (d : Cell) (b r : Bool) → IsRule x → d.node < x.nodes → extent d.position ≤ 1048560 → AreInputs n w → HasAllSymbols x.symbols w → n ≤ m →
     r ≡ are_reads_wired m w x d → r ≡ b → is_wired_at w n x d ≡ b
 reads_tell n m w x d b r rule node near ok full more said told =
@@ -68,11 +68,11 @@ template_at x ts k t are below is = is ∙ (ap (λ (us : List RuleAt). get_or us
 template_count : (x : LocalRule) (ts : List RuleAt) → ts ≡ map (rule_at x) (range_with_len 0 x.nodes) → length ts ≡ x.nodes
 template_count x ts are = ap length are ∙ length-map-range_with_len (rule_at x) 0 x.nodes
 
--- there is a template for each cell's node
 node_below : (x : LocalRule) (cells : List Cell) (i : ℕ) (d : Cell) → All (λ (c : Cell). c.node < x.nodes) cells → i < length cells → d ≡ get_or cells i d → d.node < x.nodes
 node_below x cells i d nodes h here =
     subst (λ (c : Cell). c.node < x.nodes) (sym here) (All-get_or (λ (c : Cell). c.node < x.nodes) cells i d h nodes)
 
+-- there is a template for each cell's node
 pub node_there : (x : LocalRule) (ts : List RuleAt) (cells : List Cell) (i : ℕ) (d : Cell) → ts ≡ map (rule_at x) (range_with_len 0 x.nodes) →
     All (λ (c : Cell). c.node < x.nodes) cells → i < length cells → d ≡ get_or cells i d → d.node < length ts
 node_there x ts cells i d are nodes h here = omega (arith, node_below x cells i d nodes h here, template_count x ts are)
@@ -81,11 +81,11 @@ pub node_template : (x : LocalRule) (ts : List RuleAt) (cells : List Cell) (i : 
     All (λ (c : Cell). c.node < x.nodes) cells → i < length cells → d ≡ get_or cells i d → t ≡ get_or ts d.node t → t ≡ rule_at x d.node
 node_template x ts cells i d t are nodes h here is = template_at x ts d.node t are (node_below x cells i d nodes h here) is
 
--- inputs that are made by number have one signal for each symbol
 turn_full : (m : ℕ) (o : Option ℕ) (ss : List Signal) → option_map (symbol_signals m) o ≡ Some ss → length ss ≡ m
 turn_full m None ss h = absurd (cc)
 turn_full m (Some k) ss h = ap length (some_same ss (symbol_signals m k) (sym h)) ∙ length-map-range_with_len (λ s. signal_of (input m k s)) 0 m
 
+-- inputs that are made by number have one signal for each symbol
 pub numbered_full : (m : ℕ) (cells : List Cell) (numbers : List ℕ) → HasAllSymbols m (numbered_wiring m cells numbers)
 numbered_full m cells numbers c ss is =
     let j = position_or_len (λ d. is_eq (cell_cmp d c)) cells in

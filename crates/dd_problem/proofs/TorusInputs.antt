@@ -30,7 +30,7 @@ use Rattle.dd_problem.proofs.BoxInputs.{box_in_range}
 use Rattle.dd_problem.proofs.NearCells.{is_one_of, contained_one_of, all_are_some, near_ascends, near_has_read, near_has_box}
 use Rattle.dd_problem.proofs.{Templating.torus_near, TorusReach.facts_near, TorusReach.facts_reach}
 
--- what lies near a position well within the range is in range
+-- a position is in range if it is near one that lies well within the range
 axis_in_range : (a b : ℤ) → unsigned_abs a ≤ 16 → unsigned_abs b ≤ 1048560 → IsCoordinateInRange (a +ℤ b)
 axis_in_range a b near wide = (omega (arith, ints), omega (arith, ints))
 

@@ -14,7 +14,7 @@ use Rattle.dd_problem.specs.pushing.Pushed.{are_both_wired, is_wired_at, is_goal
 use Rattle.dd_problem.specs.lemmas.Wiring.{range_at}
 use Rattle.dd_problem.specs.lemmas.Growing.{same_encoding, extended_size, with_parts-append}
 
--- a goal that is wired with some variables is still wired with more
+-- a goal that is wired with the first n variables is also wired with the first m, if m is not smaller
 pub goal_wired_more : (w : Wiring) (n m : ℕ) (g : GoalOf) → n ≤ m → is_goal_wired w n g ≡ true → is_goal_wired w m g ≡ true
 goal_wired_more w n m (breaks y) more h =
     all_numbers (λ a. is_wired_at w m y (cell origin a)) 0 y.nodes

@@ -41,13 +41,14 @@ clauses_from x first cells = flat_map (λ numbered. symbol_clauses x numbered.0 
 abbrev pub cell_clauses : LocalRule → List Cell → List (List Literal)
 cell_clauses x cells = clauses_from x 0 cells
 
--- A problem is the clause list of a question. One part of it has some gates, and then clauses over the signals of these gates.
--- A maker gives a signal and its gates, from the number of variables before these gates.
+-- A problem is the clause list of a question. After the clauses of its cells come those of its parts. A part has makers. A maker
+-- gives a signal and its gates, from the number of variables before these gates. The clauses of a part are those of its gates,
+-- and then those that `tail` gives for its makers' signals.
 pub record Part : Type 0 where
   pub makers : List Maker
   pub tail : List Signal → List (List Literal)
 
--- the gates of a part, made after n variables, and their signals
+-- the signals and the gates of a part's makers, made after n variables
 abbrev pub made_by : Part → ℕ → AllMade
 made_by p n = all_made p.makers n
 
@@ -56,7 +57,7 @@ abbrev pub part_gates : ℕ → List Part → List Gate
 part_gates n [] = []
 part_gates n (p ∷ ps) = (made_by p n).gates ++ part_gates (n + length (made_by p n).gates) ps
 
--- for each part, the clauses of its gates, and then the clauses over the signals of these gates
+-- for each part, the clauses of its gates, and then its clauses over its makers' signals
 abbrev pub part_clauses : ℕ → List Part → List (List Literal)
 part_clauses n [] = []
 part_clauses n (p ∷ ps) =

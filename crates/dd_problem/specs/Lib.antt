@@ -12,7 +12,7 @@ pub mod Problems
 pub mod Symbols
 -- when clauses express what a question asks
 pub mod Shows
--- the clauses of `Problems` over the inputs that the code keeps, and the facts about goals that proofs need
+-- the clauses as the code makes them, over any inputs; the inputs of the cells of a box and of a torus; the facts about goals that proofs need
 pub mod pushing
 -- lemmas on these definitions, with their proofs
 pub mod lemmas

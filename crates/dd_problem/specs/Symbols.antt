@@ -13,7 +13,7 @@ pub record AreSymbols (x : LocalRule) (cells : List Cell) (symbols : List ℕ) :
   pub below : All (λ s. s < x.symbols) symbols
   pub allowed : (k : ℕ) (c : Cell) → slice_get cells k ≡ Some c → rule_allows x c.node (slice_index symbols k) ≡ true
 
--- for each cell, the input of its symbol is true, and its other inputs, over m symbols, are false
+-- for each cell, the input of its symbol is true, and the others of its m inputs are false
 abbrev pub AreRead : (ℕ → Bool) → ℕ → List ℕ → Type 0
 AreRead set m symbols = (k s : ℕ) → k < length symbols → s < m → set (input m k s) ≡ is_symbol s (slice_get symbols k)
 

@@ -149,7 +149,8 @@ impl Encoder {
     }
 
     /// Adds the gates that say whether the values of two automata at this node of the origin are different, and the clauses of
-    /// these gates. Returns the signal that says it. If memory runs out, some gates and clauses may have been added.
+    /// these gates. Returns the signal that says whether the values are different. If memory runs out, some gates and clauses
+    /// may have been added.
     pub(crate) fn push_apart(
         &mut self,
         premise: &Rule,

@@ -1,18 +1,25 @@
 //! Box questions (`dd_boxes`) as clauses. A box question has a rule, which is its premise, and a goal: a property of a
 //! position, such as that a given rule is broken there. The question asks whether no configuration that obeys the premise has
-//! the goal at any position. Each position has the same nodes. A cell is a position together with one of its nodes.
+//! the goal at any position. Each position has the same nodes. A cell is a position together with one of its nodes. Cells are
+//! numbered from 0 in cell order: by z, then y, then x, then the node.
 //!
-//! The clauses of a box are satisfiable exactly when the box has an admissible filling with the goal at the origin. (A filling
-//! of a box gives each of its cells a symbol that the cell's node allows. The filling is admissible if the premise is true at
-//! each of these cells where all that the premise reads has a symbol.) The clauses of a torus are satisfiable exactly when some
-//! configuration of the torus's periods lives in the premise's subshift (obeys the premise at every cell) and has the goal at
-//! the origin. A satisfying assignment of a torus's clauses is read back as such a configuration. The configurations of a torus
-//! repeat along the vectors `(x, 0, 0)`, `(s, y, 0)` and `(0, 0, z)`, where x, y and z are the periods of the torus and s is
-//! its shear. The fundamental box of the torus is the box that repeats: along each axis its coordinates run from 0 to the
-//! period minus 1. Cells are numbered in cell order: by z, then y, then x, then the node.
+//! The box of radius n, B(n), has the cells of Z^d whose positions have coordinates from -n to n. The least radius of a goal is
+//! the least n for which B(n) has each cell that the goal reads at the origin. The clauses of a box are satisfiable exactly
+//! when the box has an admissible filling with the goal at the origin. (A filling of a box gives each of its cells a symbol
+//! that the cell's node allows. The filling is admissible if the premise is true at each of these cells where all that the
+//! premise reads has a symbol.)
 //!
-//! The premise and the goal become gates of a circuit, and clauses over signals. A signal is a variable of the circuit, or its
-//! opposite (its negation). The inputs of the circuit are the variables that say which symbols the cells have.
+//! A torus stands for the configurations that repeat along the vectors `(x, 0, 0)`, `(s, y, 0)` and `(0, 0, z)`. Here x, y and
+//! z are the periods of the torus, and s is its shear. The fundamental box of the torus is the box that repeats: along each
+//! axis its coordinates run from 0 to the period minus 1. The clauses of a torus are satisfiable exactly when one of its
+//! configurations lives in the premise's subshift (obeys the premise at every cell) and has the goal at the origin. A
+//! satisfying assignment of these clauses is read back as such a configuration.
+//!
+//! The premise and the goal become gates of a circuit, and clauses over signals. Each input and each gate of the circuit has a
+//! variable. A signal is such a variable, or its opposite (its negation). The inputs of a cell say which symbol the cell has:
+//! there is one for each symbol. The expansion of a rule at a node is the rule's formula there, with its quantifiers written
+//! out. A leaf of the rule is a leaf of this expansion: it says that a cell has a certain symbol. The signal that says the same
+//! is called the wire of the cell and the symbol.
 #![tactic(auto)]
 
 mod boxes;

@@ -1,4 +1,4 @@
-//! All clauses of a box question, over the inputs of the cells of a box or of a torus.
+//! All clauses of a box question, on a box or on a torus.
 ghost use Rattle.std.specs.Prelude.{◌≡◌, ◌≤◌, ◌<◌, ◌-◌, ◌*◌, true, length, All, IfOk};
 ghost use Rattle.dd_lattice.specs.Place.{most_coordinate};
 ghost use Rattle.dd_values.specs.Bounds.{most_variables};
@@ -17,8 +17,8 @@ use dd_formula::Rule;
 use dd_lattice::Cell;
 use std::alloc::{AllocError, Global};
 
-/// The clauses that say three things: each of the cells has one symbol, which its node allows; the premise is true at each
-/// cell where all that the premise reads has inputs; and the goal holds at the origin.
+/// The clauses that say three things: each of the cells has one symbol, which its node allows; the premise is true at each of
+/// the cells where all that the premise reads has inputs; and the goal holds at the origin.
 pub(crate) fn problem(
     alloc: Global,
     premise: &Rule,

@@ -183,9 +183,10 @@ fn torus_inputs(
     inputs_by_number(alloc, &near, &numbers, symbols)
 }
 
-/// The clauses that ask for a configuration of these periods and this shear that lives in the premise's subshift and
-/// has the goal at the origin. The variable `1 + k * symbols + s` says that the cell with the number `k` has the symbol `s`.
-/// The cells of the fundamental box are numbered from 0 in cell order. The variables of the gates follow.
+/// The clauses that ask for a configuration of these periods and this shear that lives in the premise's subshift and has the
+/// goal at the origin. The cells of the fundamental box are numbered from 0 in cell order. If the alphabet has `symbols`
+/// symbols, the variable `1 + k * symbols + s` says that the cell with the number `k` has the symbol `s`. The variables of the
+/// gates follow.
 ///
 /// # Errors
 /// `AllocError` if memory ran out.

@@ -12,7 +12,7 @@ use std::{env, io};
 /// The exit code if the arguments can't be read, unless memory ran out. The codes 0 to 7 are those of `Status`.
 const NO_WORDS: u8 = 8;
 
-/// The most flips that the walker makes each time it is asked. A flip changes the value of one variable.
+/// The most flips that the engine `Walker` makes each time it is asked. A flip changes the value of one variable.
 const FLIPS: u32 = 10_000;
 
 /// Why the arguments could not be read.

@@ -13,7 +13,7 @@ use Rattle.dd_faults.specs.{Commands.entry_value, Commands.has_entries, Commands
 abbrev vector : List Entry → Vector
 vector es = record { entries = es }
 
--- vectors with the same entries have the same key, if no entry is over 4 in absolute value
+-- Repeated vectors are found by their keys (see dd_faults). Vectors with the same entries have the same key, if no entry is over 4 in absolute value.
 same_key : (bytes : List ℕ) (es fs : List Entry) → length es ≡ length fs → ((axis : ℕ) → axis < length es → coordinate bytes (vector es) axis ≡ coordinate bytes (vector fs) axis) →
     is_far bytes (vector es) ≡ false → is_far bytes (vector fs) ≡ false → vector_key bytes (vector es) ≡ vector_key bytes (vector fs)
 same_key bytes [] [] long is near nearby = refl

@@ -57,11 +57,11 @@ pub enum Query {
         from: u32,
         to: u32,
     },
-    /// The patterns that the rule forbids.
+    /// The patterns that the rule forbids. Each of them gives symbols to all cells that the rule reads at a node.
     Forbidden {
         rule: u32,
     },
-    /// The minimal patterns that the rule forbids.
+    /// Minimal patterns that together forbid what the rule forbids. No cell can be left out of a minimal pattern.
     Minimal {
         rule: u32,
     },
@@ -77,7 +77,8 @@ pub enum Query {
         rule: u32,
         periods: [u32; 3],
     },
-    /// The best lower bound on the rule's density that discharging along these vectors gives, with this radius and this margin.
+    /// The best lower bound on the rule's density that discharging along these vectors gives, with this radius and this margin
+    /// (see `dd_rows`).
     Discharge {
         rule: u32,
         radius: u32,

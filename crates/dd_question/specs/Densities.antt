@@ -1,5 +1,5 @@
--- Questions for the least density of a strip: how many states and windows its transfer graph has. A slice of the strip has the cells of one x. A
--- state is a filling of successive slices. A window has one more slice.
+-- Questions for the least density of a strip: how many states and windows its transfer graph has. A slice consists of the strip's cells with one
+-- value of x. A state is a filling of successive slices. A window is a filling of one slice more.
 use Rattle.std.specs.Prelude.{ℕ, ◌*◌, ◌||◌, List, Bool, nat_lt, slice_index}
 use Rattle.dd_formula.specs.LocalRule.{LocalRule}
 use Rattle.dd_counts.specs.Rules.{states, window_count, most_states, most_windows}
@@ -13,7 +13,8 @@ has_many_states x volume = nat_lt most_states (states x volume) || nat_lt most_w
 abbrev pub strip_volume : List ℕ → ℕ
 strip_volume strip = slice_index strip 0 * slice_index strip 1
 
--- the question is sound: these may be the periods of a strip, its transfer graph has few enough states and windows, and each symbol has a weight
+-- the question is sound: these may be the periods of a strip, its transfer graph has few enough states and windows, and each symbol has a weight of
+-- at most 1,000
 pub record IsNarrow (x : LocalRule) (periods ws : List ℕ) : Type 0 where
   pub strip : IsStrip x periods
   pub weights : HasWeights x ws

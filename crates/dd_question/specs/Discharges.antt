@@ -8,7 +8,7 @@ use Rattle.dd_boxes.specs.Discharges.{AreVectors, AreWeightsFor}
 use Rattle.dd_question.specs.declared.fault.QuestionFault.{QuestionFault}
 use Rattle.dd_question.specs.declared.fault.QuestionFault.TheVariants as fault
 
--- The radius (here `reach`), the margin (here `growth`) and the vectors are within their limits, and each symbol has a weight.
+-- The radius (here `reach`), the margin (here `growth`) and the vectors are within their limits, and each symbol has a weight of at most 1,000.
 pub record IsDischargeable (x : LocalRule) (reach growth : ℕ) (vs : List Place) (ws : List ℕ) : Type 0 where
   pub radius : reach ≤ widest_radius
   pub margin : growth ≤ widest_radius

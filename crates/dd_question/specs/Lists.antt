@@ -1,4 +1,4 @@
--- Questions for lists of forbidden patterns: how many patterns a rule has at a node.
+-- Questions for lists of forbidden patterns: whether the cells that a rule reads at a node have few enough fillings.
 use Rattle.std.specs.{Prelude.ℕ, Prelude.◌<◌, Prelude.◌≤◌, Prelude.Bool, Prelude.nat_lt, List.list_any, List.range_with_len}
 use Rattle.dd_formula.specs.LocalRule.{LocalRule}
 use Rattle.dd_counts.specs.Rules.{pattern_count, most_patterns}

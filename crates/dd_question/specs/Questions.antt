@@ -25,22 +25,23 @@ pub data Asked : Type 0 where
   box : LocalRule → GoalOf → Asked
   -- do the same configurations obey both rules?
   equality : LocalRule → LocalRule → Asked
-  -- Which patterns does the rule forbid? Such a pattern gives a symbol to each cell that the rule reads at a node, and makes the rule false there.
+  -- Which patterns does the rule forbid? Such a pattern gives allowed symbols to all cells that the rule reads at a node, and makes the rule false
+  -- there.
   listing : LocalRule → Asked
-  -- Which minimal patterns forbid what the rule forbids? A minimal pattern gives symbols to some of the cells that the rule reads at a node, and
-  -- leaves the others out. No further cell can be left out of it.
+  -- Which minimal patterns forbid what the rule forbids? A minimal pattern gives symbols to some of the cells that the rule reads at a node. It makes
+  -- the rule false there, whatever allowed symbols the other cells have. None of its cells can be left out.
   smallest : LocalRule → Asked
   -- are two maps between the subshifts of two rules inverse to each other?
   conjugacy : ConjugacyOf → Asked
   -- what is the least weight per position of a configuration that obeys the rule and has these periods along the axes after the first?
   density : LocalRule → List ℕ → List ℕ → Asked
-  -- what is the least weight of the fundamental box, the box that repeats, over the configurations that obey the rule and have these periods and no
-  -- shear?
+  -- What is the least weight of a configuration that obeys the rule and has these periods, and no shear? The weight of a configuration is that of its
+  -- fundamental box, the box that repeats.
   least : LocalRule → List ℕ → List ℕ → Asked
   -- What is the best lower bound that a discharge shows for the rule's density? Each position first holds its weight. Then, along each of the
-  -- vectors, it gives an amount to the position at the vector's end. A bound is a number such that each position then holds at least this number. The
-  -- first number of the question is the radius: the pattern within this radius around a position determines what it gives. The second number is the
-  -- margin: in every direction, the region whose fillings are examined is enlarged by this much.
+  -- vectors, it gives an amount to the position at the vector's end. A bound is a number such that each position then holds at least this number. To
+  -- find it, the fillings of a finite region are examined. The first number of the question is the radius: the symbols of the box of this radius
+  -- around a position determine what it gives. The second number is the margin: the region is enlarged by this much in every direction.
   discharge : LocalRule → ℕ → ℕ → List Place → List ℕ → Asked
 
 -- the question that a value of the code stands for

@@ -26,7 +26,8 @@ weight_clauses x along ws =
 abbrev pub is_heavy : LocalRule → List ℕ → List ℕ → Bool
 is_heavy x along ws = nat_lt most_clauses (weight_clauses x along ws)
 
--- the question is sound: these may be the periods of a torus, each symbol has a weight, and it takes at most 2,000,000 clauses
+-- the question is sound: these may be the periods of a torus, each symbol has a weight of at most 1,000, and the question takes at most 2,000,000
+-- clauses
 pub record IsWeighable (x : LocalRule) (along ws : List ℕ) : Type 0 where
   pub torus : AreTorusPeriods x.dimension x.nodes (periods_of along 0)
   pub weights : HasWeights x ws

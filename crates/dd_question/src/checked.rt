@@ -3,7 +3,8 @@ use crate::question::Question;
 use dd_values::Limits;
 use std::marker::Model;
 
-/// A question whose parts fit together and that exceeds no limit on its work, with the limits of its search.
+/// A question and the limits of its search. These limits are in range, the question's parts fit together, and the question
+/// exceeds no limit on its work.
 #[derive(Drop)]
 pub struct CheckedQuestion<'a> {
     question: Question<'a>,

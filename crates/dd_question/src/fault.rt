@@ -16,7 +16,7 @@ pub enum QuestionFault {
     /// alphabet.
     #[error("the configuration doesn't fit the rule")]
     Configuration,
-    /// The configuration has a symbol that its node doesn't allow.
+    /// Some cell of the configuration has a symbol that the cell's node doesn't allow.
     #[error("the configuration has a symbol that its node doesn't allow")]
     Symbols,
     /// The goal's rule differs from the premise in its dimension, its number of nodes or its alphabet. Or one of the goal's
@@ -34,7 +34,7 @@ pub enum QuestionFault {
     Weights,
     /// A period of the torus is 0, or it is not 1 along an axis past the rule's dimension. Or the fundamental box has more than
     /// 65,536 cells.
-    #[error("a period of the torus is out of range")]
+    #[error("a period of the torus is out of range, or its box has more than 65536 cells")]
     Periods,
     /// The radius of a discharge is over 3.
     #[error("the radius is over 3")]

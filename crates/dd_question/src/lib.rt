@@ -1,7 +1,12 @@
 //! Questions about rules, one variant of `Question` for each kind. Each position of the lattice has from one to four cells, its
-//! nodes. A rule is a formula about a cell and the cells near it. Its subshift is the set of the configurations that obey it at
-//! every cell. `Question::check` tests whether the parts of a question fit together, and whether the question asks for too much
-//! work. A question that passes both tests becomes a `CheckedQuestion`.
+//! nodes. A configuration gives each cell a symbol. A rule is a formula about a cell and the cells near it. It has an alphabet,
+//! and may allow only some of its symbols at a node. Its subshift is the set of the configurations that obey it at every cell.
+//!
+//! There are two kinds of limits. The limits of the search (`Limits` of `dd_values`) bound the search for an answer. Beyond
+//! them the answer is UNKNOWN. The limits on a question's work (`Excess`) bound how much a question may ask for, such as the
+//! number of clauses that a search has to satisfy. `Question::check` tests whether the limits of the search are in range,
+//! whether the parts of a question fit together, and whether the question exceeds a limit on its work. A question that passes
+//! these tests becomes a `CheckedQuestion`.
 #![tactic(auto)]
 
 mod checked;
@@ -18,7 +23,6 @@ mod tori;
 
 pub use checked::CheckedQuestion;
 pub use conjugacy::Conjugacy;
-pub use dd_formula::has_allowed;
 pub use excess::Excess;
 pub use fault::QuestionFault;
 pub use laws::sound_questions;

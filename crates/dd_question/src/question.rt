@@ -24,14 +24,14 @@ pub enum Question<'a> {
         left: &'a Rule,
         right: &'a Rule,
     },
-    /// Which patterns does the rule forbid? Such a pattern gives a symbol to each cell that the rule reads at a node, and makes
-    /// the rule false there.
+    /// Which patterns does the rule forbid? Such a pattern gives allowed symbols to all cells that the rule reads at a node,
+    /// and makes the rule false there.
     Listing {
         rule: &'a Rule,
     },
     /// Which minimal patterns forbid what the rule forbids? A minimal pattern gives symbols to some of the cells that the rule
-    /// reads at a node, and leaves the others out. No further cell can be left out of it. `dd_minimal` says which list of
-    /// minimal patterns is the answer.
+    /// reads at a node. It makes the rule false there, whatever allowed symbols the other cells have. None of its cells can be
+    /// left out. `dd_minimal` says which list of minimal patterns is the answer.
     Smallest {
         rule: &'a Rule,
     },
@@ -39,24 +39,25 @@ pub enum Question<'a> {
     Conjugacy {
         conjugacy: Conjugacy<'a>,
     },
-    /// What is the least density, that is, the least weight per position of a configuration on the strip that obeys the rule? A
-    /// configuration on the strip repeats along the second and the third axis. `strip` holds these two periods.
+    /// What is the least density on the strip, that is, the least weight per position of a configuration that obeys the rule
+    /// and has the strip's periods? `strip` holds these two periods, along the second and the third axis.
     Density {
         rule: &'a Rule,
         strip: [u32; 2],
         weights: &'a [u32],
     },
-    /// What is the least weight of the fundamental box, the box that repeats, over the configurations that obey the rule and
-    /// repeat with these periods along the axes, without a shear?
+    /// What is the least weight of a configuration that obeys the rule and has these periods along the axes, and no shear? The
+    /// weight of a configuration is that of its fundamental box, the box that repeats.
     Least {
         rule: &'a Rule,
         periods: [u32; 3],
         weights: &'a [u32],
     },
     /// What is the best lower bound that a discharge shows for the rule's density? In a discharge, each position first holds
-    /// its weight. Then, along each of the vectors, it gives an amount to the position at the vector's end. The pattern within
-    /// `radius` around a position determines what it gives. A bound is a number such that each position then holds at least
-    /// this number. In every direction, the region whose fillings are examined is enlarged by `margin`.
+    /// its weight. Then, along each of the vectors, it gives an amount to the position at the vector's end. The symbols of the
+    /// box of radius `radius` around a position determine what it gives. A bound is a number such that each position then holds
+    /// at least this number. To find it, the fillings of a finite region are examined. `margin` says by how much this region is
+    /// enlarged in every direction.
     Discharge {
         rule: &'a Rule,
         radius: u32,

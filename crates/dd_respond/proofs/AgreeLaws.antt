@@ -1,4 +1,4 @@
--- Two right answers to a question differ only in their evidence: the least radius, the first periods and the first cell are unique.
+-- Two right answers to a question differ only in their evidence, because the least radius, the first periods and the first cell are unique.
 use Rattle.std.proofs.Common.{◌≡◌, ℕ, ◌≤◌, List, [], ◌∷◌, refl, ap, sym, subst, ◌∙◌, arith, inl, inr}
 use Rattle.std.proofs.lemmas.{Bool.cases_order, Cmp.nat_cmp_total, Cmp.on_total, Cmp.then_total}
 use Rattle.std.specs.{Prelude.◌⊎◌, Prelude.max, declared.cmp.Ordering.Ordering}

@@ -1,4 +1,4 @@
--- How a call changes the roster, if the engines are asked and if none are.
+-- How a call changes the roster: first for a call that asks engines, then for a call that asks none.
 use Rattle.std.proofs.{Common.List, Common.true, Common.false, Common.refl, lemmas.Bool.false≢true}
 use Rattle.std.specs.Prelude.{IsTrue}
 use Rattle.dd_engines.specs.Rounds.{Seen, FirstAsked}

@@ -32,7 +32,7 @@ written_decision (decision.Yes n steps) = answer.Yes n steps
 written_decision (decision.No t) = written_no side.Whole t
 written_decision decision.Unknown = answer.Unknown reason.Limits
 
--- the side that the answer NO to a question about equality names: that of the rule that the configuration obeys
+-- the side named in a NO to a question about equality: the side of the rule that the configuration of the NO obeys
 abbrev pub side_of : Half → Side
 side_of half.Left = side.Left
 side_of half.Right = side.Right

@@ -63,7 +63,7 @@ fn written_decision(alloc: Global, decision: Decision) -> Result<Answer, AllocEr
     }
 }
 
-/// The side that the answer NO to a question about equality names: that of the rule that the configuration obeys.
+/// The side named in a NO to a question about equality. It is the side of the rule that the configuration of the NO obeys.
 fn side_of(half: Half) -> Side
     ensures { result ≡ side_of half }
 {

@@ -1,7 +1,7 @@
 //! Answers to questions about discharging. In a discharge, each position first holds its weight. Then, along each of some
 //! vectors, it gives an amount to the position at the vector's end. The pattern around the giver determines the amount. A bound
-//! is a number such that each position then holds at least this number. The best bound, over all such discharges, is the value
-//! of a linear program (see `dd_discharge`).
+//! is a number such that each position then holds at least this number, in each admissible filling of the cells around it (see
+//! `dd_rows`). The best bound, over all such discharges, is the value of a linear program (see `dd_discharge`).
 ghost use Rattle.std.specs.Prelude.{◌≡◌, IfOk};
 ghost use Rattle.dd_certificate.specs.Bounds.{IsWritable};
 ghost use Rattle.dd_discharge.specs.Printed.{IsSmallBound};

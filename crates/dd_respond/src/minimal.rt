@@ -10,8 +10,8 @@ use dd_formula::Rule;
 use std::alloc::{AllocError, Global};
 
 /// Minimal patterns that together forbid exactly what a rule forbids. A minimal pattern gives symbols to some of the cells that
-/// the rule reads at a node, and no further cell can be left out of it. The rule may have other minimal patterns, which aren't
-/// listed.
+/// the rule reads at a node, and the rule is false there whatever allowed symbols the other cells have. If one more cell is
+/// left out, this no longer holds. The rule may have other minimal patterns, which aren't listed.
 #[tactic(auto, using(dd_evidence::specs::Answers::all_minimal))]
 pub(crate) fn smallest(alloc: Global, rule: &Rule) -> Result<Answer, AllocError>
     requires { HasFewPatterns rule.now }

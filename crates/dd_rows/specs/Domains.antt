@@ -13,7 +13,7 @@ IsInDomain d radius vs p = IsCentred d radius p ⊎ ((v : Place) × Contains vs 
 abbrev pub IsInGround : ℕ → ℕ → ℕ → List Place → PlaceSet
 IsInGround d radius margin vs p = (q : Place) × IsInDomain d radius vs q × IsCentred d margin (seen_from q p)
 
--- cs are the cells of G
+-- cs are the cells of G, in cell order
 pub record IsGround (x : LocalRule) (radius margin : ℕ) (vs : List Place) (cs : List Cell) : Type 0 where
   pub positions : List Place
   pub region : IsRegionOf (IsInGround x.dimension radius margin vs) positions

@@ -10,7 +10,7 @@ pub use Rattle.dd_boxes.specs.Boxes.{origin}
 use Rattle.dd_boxes.specs.Cells.{box_cells}
 use Rattle.dd_rows.specs.Fillings.{look_of, fillings}
 
--- the pattern around the position p: the symbols of the box moved to p
+-- the pattern around the position p: the symbols of the box moved to p, with 0 for a cell without a symbol
 abbrev pub pattern_at : List Cell → Look → Place → List ℕ
 pattern_at box look p = map (λ c. unwrap_or (look (shifted p c)) 0) box
 

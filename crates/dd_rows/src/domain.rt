@@ -1,6 +1,4 @@
-//! The ground of a discharge: the cells whose fillings it looks at. The domain is made of the boxes around the origin and
-//! around the positions that give to it. The ground is the domain grown by the margin: its positions are those that are, along
-//! each axis, at most the margin away from a position of the domain.
+//! The domain of a discharge, and its ground: the cells whose admissible fillings make the program.
 ghost use Rattle.std.specs.Prelude.{◌≡◌, ◌<◌, ◌≤◌, IfOk, IfErr, [], All};
 ghost use Rattle.std.specs.List.Sorted.{IsStrictlySortedBy};
 ghost use Rattle.dd_values.specs.Bounds.{widest_radius};
@@ -29,7 +27,7 @@ fn box_region(alloc: Global, dim: u32, radius: u32) -> Result<Region, RowsFault>
     ensures memory { IfErr result (λ fault. fault ≡ RowsFault.Memory) }
 {
     let Some(bounds) = centred_box(dim, radius) else {
-        // Never reached: the radius is at most 3.
+        // Never reached: there is a box for each radius up to 2^20, and this radius is at most 3.
         return Err(RowsFault::Memory);
     };
     let region = positions(alloc, &bounds)?;
@@ -89,7 +87,8 @@ pub(crate) fn box_cells(alloc: Global, rule: &Rule, radius: u32) -> Result<Items
     Ok(cells)
 }
 
-/// The cells of the ground, in cell order. The ground is the domain grown by the margin. Fails only if memory runs out.
+/// The cells of the ground, in cell order. The ground is the domain grown by the margin, and the boxes of the domain have this
+/// radius. Fails only if memory runs out.
 pub fn ground(
     alloc: Global,
     rule: &Rule,

@@ -1,14 +1,19 @@
-//! The linear program of a discharge, which is a plan for moving weight between positions. At first each position holds the
-//! weight of its symbols. Then, along each of some vectors, it gives an amount to the position at the vector's end. The amount
-//! depends on the pattern around the giver: the symbols of a box. The program seeks amounts for which the least weight that
-//! any position then holds is as great as possible. To make the program, this crate lists the cells around the origin that
-//! matter, in cell order (by z, then y, then x, then the node), and their admissible fillings. (A cell is a position together
-//! with one of its nodes. A filling gives each cell a symbol that its node allows. It is admissible if the rule is true at each
-//! cell where the rule fits: where the cell, and each cell that the rule reads there, has a symbol.) The cells that matter are
-//! those of the boxes around the origin and around the positions that give to it, and those near them: along each axis, at most
-//! a given margin away from a cell of these boxes. All their positions are in range: each coordinate is at most 2^20 in
-//! absolute value. From the fillings come the patterns that they show, and the distinct rows that they require. (A row is a
-//! linear inequality.)
+//! The linear program of a rule's discharge, which is a plan for moving weight between positions. At first each position holds
+//! the weight of its symbols. Then, along each vector v of a list, each position p gives an amount to the position p + v. The
+//! amount depends on v and on the pattern around p: the symbols of the box of a given radius around p. The program seeks
+//! amounts for which the least weight that any position then holds is as great as possible.
+//!
+//! The domain is made of the boxes around the origin and around the positions that give to it. The ground is the domain grown
+//! by a given margin: its positions are those that are, along each axis, at most the margin away from a position of the domain.
+//! They are in range: each coordinate is at most 2^20 in absolute value. A cell is a position together with one of its nodes.
+//! This crate lists the cells of the ground in cell order (by z, then y, then x, then the node). A cell's number is its index
+//! in this list. The crate also lists the admissible fillings of these cells. A filling gives each cell a symbol that its node
+//! allows. It is admissible if the rule is true at each cell where the rule fits: where the cell, and each cell that the rule
+//! reads there, has a symbol.
+//!
+//! A view is a list of cell numbers. It shows the symbols that a filling gives to these cells. The patterns that a filling
+//! shows are those around the origin and around the positions that give to it. The row that a filling requires is a linear
+//! inequality. It says that what the origin holds in the end is at least the number that the program maximises.
 #![tactic(auto, using(std::proofs::lemmas::Grind::common_steps))]
 
 mod domain;

@@ -76,7 +76,8 @@ impl Pattern {
         }
     }
 
-    /// Replaces the pattern's symbols by those of the cells with these numbers. Reuses the pattern's memory.
+    /// Replaces the pattern's symbols by those that the filling `symbols` gives to the cells with these numbers. Reuses the
+    /// pattern's memory.
     pub(crate) fn read(&mut self, symbols: &[u32], numbers: &[usize]) -> Result<(), AllocError>
         ensures { OnOk result (self.new ≡ symbols_at symbols.now numbers.now) }
     {

@@ -13,7 +13,7 @@ use dd_values::Items;
 use std::alloc::{AllocError, Global};
 
 /// Assigns numbers to cells that are given relative to the position `at`. A cell's number is its index in `cells`, which is in
-/// cell order.
+/// cell order. A cell that isn't in `cells` has the length of `cells` as its number, and a cell out of range has none.
 #[derive(Drop)]
 struct Near<'a> {
     cells: &'a [Cell],

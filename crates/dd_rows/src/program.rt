@@ -51,7 +51,7 @@ fn add_patterns(
     Ok(())
 }
 
-/// The patterns that the fillings show. Stops as soon as there are too many columns.
+/// The patterns that the fillings show. Fails with `Large` as soon as there are too many columns.
 fn all_patterns(
     alloc: Global,
     fillings: &[Items<u32>],
@@ -74,7 +74,7 @@ fn all_patterns(
     Ok(patterns)
 }
 
-/// The row that the filling requires. Each pattern that the filling shows is first read into `seen`.
+/// The row that the filling requires. What each view shows is first read into `seen`.
 fn required_row(
     alloc: Global,
     symbols: &[u32],
@@ -95,7 +95,7 @@ fn required_row(
     Ok(SparseRow::new(list, weight_of(seen.symbols(), weights)))
 }
 
-/// Appends the row, unless it is already there.
+/// Appends the row, unless it is already there. Fails with `Large` if there are then too many rows.
 fn add_row(rows: &mut IndexSet<SparseRow>, row: SparseRow) -> Result<(), RowsFault>
     ensures ok { (vectors : ℕ) → (patterns : ℕ) → AreSparse vectors patterns rows.old.keys → IsSparse vectors patterns row →
         OnOk result (IsWithRow vectors patterns rows.old.keys row rows.new.keys) }
@@ -113,8 +113,8 @@ fn add_row(rows: &mut IndexSet<SparseRow>, row: SparseRow) -> Result<(), RowsFau
     Ok(())
 }
 
-/// A first row, and then the distinct rows that the fillings require. The first row says that column 0 is at most `heaviest`,
-/// a bound for the weight of a position. Stops as soon as there are too many rows.
+/// A first row, and then the rows that the fillings require, each row once. The first row says that column 0 is at most
+/// `heaviest`, a bound for the weight of a position. Fails with `Large` as soon as there are too many rows.
 fn distinct_rows(
     alloc: Global,
     fillings: &[Items<u32>],
@@ -200,7 +200,8 @@ fn program_listed(
     })
 }
 
-/// The same program as that of `program_listed`, made faster: fillings in which the views show nothing new are left out first.
+/// The same program as that of `program_listed`, made faster: each filling in which the views show the same symbols as in the
+/// filling before is left out first.
 fn program_shown(
     alloc: Global,
     fillings: &[Items<u32>],
@@ -223,8 +224,8 @@ fn program_shown(
 /// the margin. `weights` has one weight for each symbol.
 ///
 /// # Errors
-/// - `Large` if some prefix of the ground's list of cells has more than 65,536 admissible fillings, or if the program would have
-///   more than 256 columns or more than 2,048 rows. Then there is no program.
+/// - `Large` if some prefix of the ground's list of cells has more than 65,536 admissible fillings, or if the program would
+///   have more than 256 columns or more than 2,048 rows. Then there is no program.
 /// - `Memory` if memory ran out.
 pub fn program_of(
     alloc: Global,

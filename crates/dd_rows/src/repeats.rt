@@ -1,5 +1,5 @@
-//! Leaves out fillings in which the views show nothing new. In lexicographic order, many consecutive fillings differ only at
-//! cells that are in no view.
+//! Leaves out each filling in which the views show the same symbols as in the filling before. In lexicographic order, many
+//! consecutive fillings differ only at cells that are in no view.
 ghost use Rattle.std.specs.Prelude.{◌≡◌, ℕ, map, unwrap_or, slice_get, IfOk, IsTrue};
 ghost use Rattle.dd_rows.specs.listing.Views.{symbols_at};
 ghost use Rattle.dd_rows.specs.listing.Repeats.{ShowAlike, EndsAlike, ShowsSame, HasKnown};
@@ -58,7 +58,8 @@ fn show_alike(one: &[u32], other: &[u32], views: &Views) -> bool
     are_all_same(one, other, views.givers.as_slice())
 }
 
-/// Whether the views show the same symbols in the last filling of `shown` as in the filling `symbols`.
+/// Whether the views show the same symbols in the last filling of `shown` as in the filling `symbols`. The result is false if
+/// `shown` is empty.
 fn ends_alike(shown: &[Items<u32>], symbols: &[u32], views: &Views) -> bool
     ensures { IsTrue result → EndsAlike views.now shown.now symbols.now }
 {

@@ -97,7 +97,8 @@ fn next_level(
 }
 
 /// For each cell, its last number. This is the greatest among the cell's own number and the numbers of the cells that the rule
-/// reads there. The rule can be tested at the cell once the cell with the last number has a symbol.
+/// reads there. The rule can be tested at the cell once the cell with the last number has a symbol. If the rule reads there a
+/// cell that isn't in the list, the last number is the list's length, and the rule is never tested at the cell.
 fn last_numbers(alloc: Global, rule: &Rule, cells: &[Cell]) -> Result<Vec<usize>, AllocError>
     requires ascending { IsStrictlySortedBy cell_cmp cells.now }
     requires nodes { AreOf rule.now cells.now }
@@ -125,8 +126,8 @@ fn last_number(rule: &Rule, cells: &[Cell], cell: &Cell) -> usize
     last
 }
 
-/// The number of the cell `read`, which the rule reads at `cell`. The cell `read` is given relative to the position of `cell`.
-/// If it is not in `cells`, the result is the length of this list.
+/// The number of the cell `read`, which is given relative to the position of `cell`. If it is not in `cells`, the result is the
+/// length of this list.
 pub(crate) fn number_of_read(cells: &[Cell], cell: &Cell, read: &Cell) -> usize
     requires ascending { IsStrictlySortedBy cell_cmp cells.now }
     requires near { AreInRange cells.now }
@@ -175,9 +176,9 @@ fn places_by_number(
     Ok(places)
 }
 
-/// All admissible fillings of the cells, in the lexicographic order of their symbols. In an admissible filling, each cell has a
-/// symbol that its node allows. And the rule is true at each of the cells where it fits: where each cell that the rule reads
-/// there has a symbol.
+/// All admissible fillings of the cells, in lexicographic order. Each is the list of the cells' symbols, in the order of the
+/// cells. A filling is admissible if each symbol is one that the cell's node allows, and the rule is true at each of the cells
+/// where it fits: where all that it reads has a symbol.
 ///
 /// # Errors
 /// - `Large` if a prefix of the cells has more than 65,536 admissible fillings.

@@ -1,4 +1,5 @@
-//! Rows in a sparse form. For each vector, at most two of a row's coefficients are not 0, so a few numbers describe a row.
+//! Rows in a sparse form. For each vector, at most two of a row's coefficients are not 0, so a few numbers describe a row. A
+//! pattern's number is its index in the list of patterns.
 ghost use Rattle.std.specs.Prelude.{◌≡◌, ◌++◌, ◌∷◌, [], pos, None, replicate, length, map, IfOk, OnOk};
 ghost use Rattle.dd_pattern.specs.Weight.{total_weight};
 ghost use Rattle.dd_rows.specs.Patterns.{pattern_number};
@@ -20,7 +21,7 @@ pub(crate) struct Exchange {
 }
 
 /// A row: what the origin exchanges along each vector, and the bound. `None` means that there is no exchange along the vector:
-/// one pattern determines both the amount that the origin gives and the amount that it receives.
+/// all coefficients in its columns are 0.
 #[derive(PartialEq, Eq, Hash, Drop)]
 pub(crate) struct SparseRow {
     exchanges: Vec<Option<Exchange>>,
@@ -39,8 +40,7 @@ fn exchange_between(gives: usize, receives: usize) -> Option<Exchange>
     }
 }
 
-/// The number of the pattern that the filling shows at the cells with these numbers. A pattern's number is its index in
-/// `patterns`. The pattern itself is left in `seen`.
+/// The number of the pattern that the filling shows at the cells with these numbers. The pattern itself is left in `seen`.
 fn number_seen(
     symbols: &[u32],
     numbers: &[usize],

@@ -1,4 +1,4 @@
-//! The numbers of samples, read from words.
+//! The numbers of samples, read from words of the command line.
 ghost use Rattle.std.specs.Prelude.{◌≡◌, ◌⊎◌, ◌↔◌, IsTrue, slice_index};
 ghost use Rattle.dd_sample.specs.Sample.{IsNumberOf};
 

@@ -20,7 +20,7 @@ use Rattle.dd_faults.specs.declared.fault.Limit.TheVariants as limit
 
 -- ---- faults and meanings: both are folds over a formula, unfolded here by one layer
 
--- the faults of a formula, as a function of its scope: the list of the variables that it may use
+-- the faults of a formula, as a function of its scope: the list of the variables that the quantifiers around it bind
 abbrev Faulty : Type 0
 Faulty = List Word → List Fault
 
@@ -110,7 +110,7 @@ dom_means x = simp meanings
 abbrev pub standing : List ℕ → ℕ → List (List ℕ) → List (List ℕ) → Context
 standing bytes number rules configurations = record { text = bytes; has_topology = false; number = number; known = known rules configurations }
 
--- the context of a rule of a sample, once the rules with these names are defined
+-- the context of a sample's rule or configuration, once the rules with these names are defined
 abbrev pub behind : List ℕ → ℕ → List (List ℕ) → Context
 behind more number rules = standing (front_text ++ more) number rules []
 

@@ -180,7 +180,7 @@ discharge_faultless bytes p stands =
 abbrev pub rules_5 : List LocalRule
 rules_5 = plain_rule hard_meant ∷ plain_rule row_meant ∷ plain_rule dies_meant ∷ plain_rule zero_meant ∷ plain_rule dom_meant ∷ []
 
--- the script with these queries
+-- the script with the rules of a sample, these configurations and these queries
 abbrev pub script : List Tile → List Query → Parts
 script tiles queries = record { known = known names_5 (codes "c" ∷ []); rules = rules_5; automata = []; configurations = tiles; queries = queries }
 

@@ -1,4 +1,4 @@
--- The rules and queries of a sample exceed no limit on counts.
+-- The rules and queries of a sample exceed no limit on counts, and no cell that a rule reads is too far away.
 use Rattle.std.proofs.Common.{◌≡◌, ℕ, ◌+◌, ◌-◌, ◌*◌, ◌^◌, List, [], ◌∷◌, ◌++◌, max, Bool, false, refl, ap, ◌∙◌, codes}
 use Rattle.std.specs.Prelude.{pos, ◌-ℤ◌, unsigned_abs, nat_lt, nat_le, ◌||◌, ◌&&◌, true, not}
 use Rattle.std.specs.List.{list_all}
@@ -69,9 +69,9 @@ dom_few = rule_faultless dom_counts refl
 
 -- ---- questions
 
--- A box question asks whether no configuration that obeys one rule, the premise, breaks another, the goal's rule. `long_by` says whether it has too
--- many clauses. This is computed from the premise, the numbers of clauses of the premise and of the goal's rule, and the cells that the goal's
--- rule reads.
+-- A box question has two rules here, the premise and the goal's rule. It asks whether no configuration that obeys the premise breaks the goal's
+-- rule. `long_by` says whether the question has too many clauses. This is computed from the premise, the numbers of clauses of the premise and of
+-- the goal's rule, and the cells that the goal's rule reads.
 abbrev long_by : LocalRule → ℕ → ℕ → List Cell → Bool
 long_by x clauses goal cells =
     nat_lt most_clauses (largest_region x.dimension (max 3 (farthest (in_order cells ++ []))) 3 * (x.nodes * cell_clause_count x.symbols + disallowed_pairs x + (clauses + 0)) + (goal + 0 + 1))

@@ -183,7 +183,7 @@ faultless k h few =
     (conf_next more h.others k)
     (questions_none bytes (tail_at h.others k) (tile more h.others k ∷ []) stands []))
 
--- the sample is a script
+-- the bytes spell a script
 abbrev Spelled : List ℕ → Type 0
 Spelled bytes = (s : Parts) × Spells bytes s
 

@@ -85,8 +85,8 @@ module _ (s : Parts) (ok : IsScriptOf s) where
   pub question_fits : (q : Query) (a : Asked) → IsQueryWithin s.known q → ArePaired (comparisons_for s q) → asked s q ≡ Some a → FitsIn a
   question_fits q a within pairs is = subst (λ (o : Option Asked). IfSome o FitsIn) is (asked_fits q within pairs)
 
-  -- If each well-formed question that exceeds no limit on its work is sound, then each question that a query of the script asks is sound. The first
-  -- is the law that `sound_questions` of dd_question gives.
+  -- If each well-formed question that exceeds no limit on its work is sound, then each question that a query of the script asks is sound. The
+  -- condition is the law that `sound_questions` of dd_question gives.
   pub questions_sound : ((l : Limits) (a : Asked) → IsFormed a → excess_of l a ≡ None → IsSoundAsked l a) → AreSound s
   questions_sound law q a there is =
       let of = All-contains (IsQueryOf s) s.queries q ok.queries there in

@@ -46,8 +46,8 @@ module _ (d : Draft) (is : IsScriptOf (parts_of d)) where
   pub ready_behind : (c : Command) → IsReady (stage (head_of c)) s → IsReady (next_stage (head_of c)) (behind c)
   ready_behind c ready = grind arith
 
-  -- What holds of the script holds after the command c. A command of the header may change all that is known except the names of definitions, but
-  -- then nothing is defined or asked yet. A later command only adds a definition or a query.
+  -- What holds of the script still holds after the command c. A command of the header may change all that is known except the names of definitions,
+  -- but then nothing is defined or asked yet. A later command only adds a definition or a query.
   pub kept_behind : (c : Command) → IsReady (stage (head_of c)) s → IsSoundMeaning d.context (meaning d.context d.made.automata c) → asked_fault s (meaning d.context d.made.automata c) ≡ None
       → HavePairs d.context.known (comparisons_in s (meaning d.context d.made.automata c)) → HasSets (behind c).known → IsScriptOf (behind c)
   kept_behind (Command.Rule name f) ready sound faultless pairs has =

@@ -73,7 +73,7 @@ module _ (text : List ℕ) (ws : List Written) (i : ℕ) (d : Draft) (w : Writte
   here : (sofar.from ≤ stage_of w) × (left : List (List Lexeme)) × AreCommands text (stage_after w) left (drop (i + 1) ws)
   here = next_one text sofar.from sofar.left w (drop (i + 1) ws) (rw split at sofar.are)
 
-  -- what `rest_of` gives before the command at the index i, if `found` is the first fault of that command, or `None` if it has no fault
+  -- what `rest_of` gives before the command at the index i; `found` is the first fault of that command, and is `None` if the command has no fault
   abbrev rest_with : Option Fault → Option Located × Parts
   rest_with found =
       let rest = rest_of (with_meaning d (meant d w)) (drop (i + 1) ws) in (option_or (option_map (located d.context.number) found) rest.0, rest.1)

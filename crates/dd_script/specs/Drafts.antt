@@ -1,4 +1,4 @@
--- Drafts. A draft is a script after the commands read so far. It grows as the commands are read, one by one.
+-- Drafts. A draft is an unfinished script, made by the commands read so far. It grows as more commands are read, one by one.
 use Rattle.std.specs.Prelude.{ℕ, ◌+◌, ◌≡◌, ◌≤◌, List, Bool, Option, None}
 use Rattle.dd_values.specs.Bounds.{most_commands}
 use Rattle.dd_script.specs.{Tree.SyntaxFault, declared.draft.Draft.Draft, declared.fault.ScriptFault.ScriptFault}

@@ -12,5 +12,5 @@ pub mod Walk
 pub mod Asking
 -- which bytes spell a script, and how all others are refused
 pub mod Scripts
--- drafts: scripts after the commands read so far
+-- drafts: unfinished scripts, made by the commands read so far
 pub mod Drafts

@@ -39,9 +39,9 @@ asked s (Query.Discharge rule radius margin vectors) = option_map (λ x. questio
 abbrev pub query_excess : Parts → Query → Option Excess
 query_excess s q = option_and_then (excess_of s.known.limits) (asked s q)
 
--- The comparisons that a query about an image or a conjugacy consists of; any other query has none. A comparison asks whether the image of a
--- configuration under an automaton can break a rule or have a symbol that isn't allowed, or whether a configuration can change if two automata are
--- applied to it, one after the other.
+-- The comparisons that a query about an image or a conjugacy consists of; any other query has none. A comparison is about the configurations that
+-- obey a rule. It asks one of two things. Can the image of such a configuration under an automaton break another rule, or have a symbol that isn't
+-- allowed? Or can such a configuration change if two automata are applied to it, one after the other?
 abbrev pub comparisons_for : Parts → Query → List ComparisonOf
 comparisons_for s q = comparisons_asked s.rules s.automata q
 

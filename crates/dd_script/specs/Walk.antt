@@ -74,8 +74,9 @@ comparisons_in s m = unwrap_or (option_map (comparisons_for s) (query_in m)) []
 abbrev pub meaning_at : List ℕ → Bool → ℕ → Parts → Written → Meaning
 meaning_at bytes topology n s w = meaning_of (context bytes topology n s) s.automata w.command
 
--- The first fault of a command: the first of the lowest rank among the faults of the command's text. If there is none, it is the first of the limits
--- that the counts of the command's rule or automaton exceed (its instances, the cells that it reads and its depth). If there is none either, it is
+-- The first fault of a command: the first of the lowest rank among the faults of the command's text. (Unknown names have the lowest rank, then come
+-- repetitions, then wrong dimensions and wrong numbers of items, then exceeded limits.) If there is none, it is the first of the limits that the
+-- counts of the command's rule or automaton exceed (its instances, the cells that it reads and its depth). If there is none either, it is
 -- `asked_fault` of the command's meaning.
 abbrev pub fault_of : List ℕ → Bool → ℕ → Parts → Written → Option Fault
 fault_of bytes topology n s w =

@@ -1,4 +1,4 @@
-//! Drafts. A draft is a script after the commands read so far. It grows as the commands are read, one by one.
+//! Drafts. A draft is an unfinished script, made by the commands read so far. It grows as more commands are read, one by one.
 ghost use Rattle.std.specs.Prelude.{◌≡◌, ◌≤◌, ◌++◌, [], ◌∷◌, Contains, OnOk, IfOk, MatchResult};
 ghost use Rattle.dd_values.specs.Bounds.{most_commands};
 ghost use Rattle.dd_written.specs.Values.{word_text};
@@ -23,8 +23,8 @@ use dd_values::{Boxed, Items};
 use dd_written::{Name, Text, Word, name_text};
 use std::alloc::{AllocError, Global};
 
-/// A script after the commands read so far. `context` is the context of the next command: the text, whether it has a `topology`
-/// command, the next command's number, and what the commands before it set and name. `made` holds what they define and ask.
+/// A draft. `context` is the context of the next command: the text, whether it has a `topology` command, the next command's
+/// number, and what the commands before it set and name. `made` holds what they define and ask.
 #[derive(Drop)]
 pub(crate) struct Draft {
     pub(crate) context: Context,

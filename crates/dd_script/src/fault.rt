@@ -21,7 +21,7 @@ pub enum ScriptKind {
     #[error("{0} is given twice")]
     Twice(String),
     /// The dimension, or a number of nodes, symbols, weights or entries, does not fit.
-    #[error("wrong dimension or number of entries")]
+    #[error("wrong dimension, or wrong number of nodes, symbols, weights or entries")]
     Dimension,
     /// This limit on scripts is exceeded.
     #[error("a limit is exceeded")]

@@ -15,7 +15,7 @@ use dd_faults::{Fault, Refusal};
 use dd_written::{Text, name_text};
 use std::alloc::{AllocError, Global};
 
-/// Whether this is a `topology` command. It names a built-in topology, or gives the edges of a topology.
+/// Whether this is a `topology` command. Such a command names a built-in topology, or gives the edges of a topology.
 fn is_topology(written: &Written) -> bool
     ensures { result ≡ is_topology written.now }
 {
@@ -108,7 +108,8 @@ fn script_of(alloc: Global, text: Text, commands: &[Written]) -> Result<Script, 
 /// first command with a fault, and the first fault of that command. Of a command's faults, unknown names come first, then
 /// repetitions, then wrong dimensions and wrong numbers of items, then exceeded limits, in the order of `Limit`. Faults of the
 /// same kind or the same limit come in the order of the text. If a query asks about pairs of automata, the limits on a pair and
-/// on the question about it are tested before those on the next pair. The error may also say that memory ran out.
+/// on the question about it are tested before those on the next pair. For an image, the depth of the target (see
+/// `Limit::Depth`) is tested before the other limits. The error may also say that memory ran out.
 pub fn parse(alloc: Global, bytes: &[u8]) -> Result<Script, ScriptFault>
     requires { length bytes.now ≤ most_script }
     ensures spelled { IfOk result (Spells bytes.now) }

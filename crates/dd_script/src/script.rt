@@ -30,8 +30,9 @@ pub(crate) struct Contents {
     pub(crate) made: Made,
 }
 
-/// A script: its topology, nodes, symbols, weights and search limits, what it defines, and what it asks. Its numbers are in
-/// range. What it defines has the script's dimension, nodes and symbols. The script exceeds none of diddy's limits on scripts.
+/// A script: its topology, nodes, symbols, weights and search limits, what it defines, and what it asks. All numbers in it,
+/// such as weights and the indices in queries, are in range. What it defines has the script's dimension, nodes and symbols.
+/// The script exceeds none of diddy's limits on scripts.
 ///
 /// A value of this type is small: its contents are on the heap.
 #[derive(Drop)]
@@ -101,7 +102,7 @@ impl Script {
         &self.contents.get().known.setting.sets
     }
 
-    /// One weight for each symbol.
+    /// The weight of each symbol, in the order of the symbols.
     pub fn weights(&self) -> &[u32]
         ensures value { result.now ≡ self.now.known.weights }
         ensures kept { IsScriptOf self.now }
@@ -128,7 +129,7 @@ impl Script {
 
     /// The automata, among them compositions, in the order of their definitions. Each automaton is well formed and has the
     /// script's dimension, nodes and symbols. The rules in an automaton are those of its cases, or those of the two automata
-    /// that it composes. They are made over the script's topology and the symbols that the script's nodes allow.
+    /// that it composes. These rules are made over the script's topology and the symbols that the script's nodes allow.
     pub fn automata(&self) -> &[Automaton]
         ensures value { result.now ≡ self.now.automata }
         ensures kept { IsScriptOf self.now }
@@ -181,8 +182,8 @@ impl Script {
     }
 
     /// What a query of the script asks, with rules, automata and configurations in place of their indices. `pairs` are the
-    /// pairs of automata that the query asks about. The checked question has the script's search limits. A question about a
-    /// density, a least weight or a discharge has the script's weights. The call allocates nothing.
+    /// pairs that `Script::pairs` returns for the query. The checked question has the script's search limits. A question about
+    /// a density, a least weight or a discharge has the script's weights. The call allocates nothing.
     pub fn question<'a>(&'a self, query: &'a Query, pairs: &'a [Pair]) -> CheckedQuestion<'a>
         requires query { Contains self.now.queries query.now }
         requires pairs { pairs.now ≡ pairs_for self.now query.now }
@@ -195,8 +196,8 @@ impl Script {
         CheckedQuestion::known(question, *self.limits())
     }
 
-    /// Does nothing. The contract says of each question that a query asks: it is well formed, it exceeds no limit on its work,
-    /// and its rules, except those in goals, have the script's topology, nodes and symbols.
+    /// Does nothing. Its contract is a law about the questions that the script's queries ask. Each such question is well formed
+    /// and exceeds no limit on its work. Its rules, except those in goals, have the script's topology, nodes and symbols.
     pub fn sound_questions(&self)
         ensures { AreSound self.now }
     {

@@ -214,7 +214,7 @@ each_rejected s answers a b t is told = subst (EachJudged a b s answers) is told
 pub judged_as : (s : Parts) (answers : List Answer) (a b : Option (List ℕ)) (n : ℕ) (t u : Bool) → t ≡ u → Judged a b s answers n t → Judged a b s answers n u
 judged_as s answers a b n t u is told = subst (Judged a b s answers n) is told
 
--- two ways to say whether some answer is UNKNOWN agree
+-- `list_any is_unknown` and `has_unknown` agree
 pub unknown_any : (answers : List Answer) → list_any is_unknown answers ≡ has_unknown answers
 unknown_any [] = refl
 unknown_any (a ∷ answers) = ap (λ (b : Bool). is_unknown a || b) (unknown_any answers)

@@ -1,4 +1,4 @@
--- What the check of an output with given bytes writes.
+-- The lines that a check writes, which answers it accepts, and which bytes it accepts, rejects or refuses.
 use Rattle.std.specs.Prelude.{◌≡◌, ◌⊎◌, ℕ, zero, suc, ◌+◌, ◌-◌, ◌≤◌, ◌<◌, max, List, [], ◌∷◌, ◌++◌, length, codes, Bool, true, false, IsSomeAnd}
 use Rattle.std.specs.{List.slice_get, Fmt.decimal}
 use Rattle.dd_certificate.specs.declared.answer.Answer.{Answer}
@@ -88,7 +88,7 @@ pub data IsEnding (s : Parts) (answers : List Answer) (done : ℕ) (ending : Lis
   rejected : FirstRejected s answers done → ending ≡ rejected_line (done + 1) → IsEnding s answers done ending
   finished : AllAccepted s answers → done ≡ length answers → ending ≡ checked_line done → IsEnding s answers done ending
 
--- The bytes are an output with a script, and each of its answers is accepted. `has` says whether some answer is UNKNOWN.
+-- The bytes are an output with a script and with one answer to each query, and each answer is accepted. `has` says whether some answer is UNKNOWN.
 pub record IsAllAccepted (has : Bool) (bytes : List ℕ) : Type 0 where
   pub output : Output
   pub script : Parts

@@ -18,7 +18,7 @@ pub mod Answers
 pub mod Output
 -- what a check reads and writes, for each status
 pub mod Checked
--- what the check of an output with given bytes writes
+-- the lines that a check writes, which answers it accepts, and which bytes it accepts, rejects or refuses
 pub mod Checks
 -- a check accepts what a run wrote
 pub mod Agreement

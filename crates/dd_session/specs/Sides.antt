@@ -1,4 +1,6 @@
--- A source and a sink before and after a call, and what each status says about them.
+-- A source or a sink before and after a call, and what was written for an input that is refused. In this crate `left_old` and
+-- `left_new` are the bytes left in a source before and after a call, if they are known. `held_old` and `held_new`, or `old` and
+-- `new`, are the bytes that a sink holds.
 use Rattle.std.specs.Prelude.{◌≡◌, ◌⊎◌, ℕ, List, Bool, true, false}
 use Rattle.std.specs.{declared.option.Option.Option, Io.KnownBytes.Appends}
 use Rattle.dd_values.specs.Counts.{Rose}
@@ -52,7 +54,7 @@ pub record LineRefused {K : Type 0} (sink : Change K) (words : List ℕ) (comman
 abbrev pub RefusedFor : {K : Type 0} → Change K → List ℕ → ℕ → ScriptKind → Status → Type 0
 RefusedFor sink words command kind status = LineRefused sink words command kind status ⊎ ((status ≡ Memory) × IsUntouched sink)
 
--- The status of a run that came to its end. The truth value says whether some answer is UNKNOWN.
+-- The status of a run that came to its end, or of a check that rejected nothing. The truth value says whether some answer is UNKNOWN.
 abbrev pub status_of : Bool → Status
 status_of true = SomeUnknown
 status_of false = Definite

@@ -1,4 +1,5 @@
-//! The check of an output's answers. Each line is written as soon as it is known.
+//! The check of an output's answers. Each line is written as soon as it is known. A query without an answer is rejected, and so
+//! is an answer without a query.
 ghost use Rattle.std.specs.Prelude.{◌≡◌, ◌≤◌, length, IfOk, OnErr, string_bytes};
 ghost use Rattle.std.specs.List.{list_any};
 ghost use Rattle.dd_values.specs.Bounds.{most_commands};
@@ -40,7 +41,7 @@ fn verdict_line(alloc: Global, number: u32, accepted: bool) -> Result<String, Al
     }
 }
 
-// The last line of a check that accepts all answers: how many there are.
+// The last line of a check that rejects nothing: how many answers there are.
 fn checked_line(alloc: Global, count: usize) -> Result<String, AllocError>
     ensures { IfOk result (λ line. string_bytes line ≡ checked_line count) }
 {
@@ -85,7 +86,7 @@ fn check_one<K: Sink>(
     Ok(accepted)
 }
 
-// Checks the answers in order, and stops at the first rejection. True if all are accepted.
+// Checks the answers in order, and stops at the first rejection. True if there is none.
 fn check_each<K: Sink>(
     alloc: Global,
     script: &Script,
@@ -108,8 +109,8 @@ fn check_each<K: Sink>(
     Ok(true)
 }
 
-/// Checks the answers in order, and stops at the first rejection. If all are accepted, writes how many there are. True if all are
-/// accepted.
+/// Checks the answers in order, and stops at the first rejection. If there is none, writes how many answers there are. True if
+/// there is none.
 pub(crate) fn check_all<K: Sink>(
     alloc: Global,
     script: &Script,

@@ -21,7 +21,7 @@ use dd_script::{Script, parse};
 use dd_spelling::spelled_or_refused;
 use std::alloc::{AllocError, Global};
 
-// The status of a check that came to its end. `accepted` says whether all answers are accepted.
+// The status of a check that came to its end. `accepted` says whether it rejected nothing.
 fn checked_status(accepted: bool, answers: &[Answer]) -> Status
     ensures { result ≡ checked_status accepted (has_unknown answers.now) }
 {
@@ -99,15 +99,15 @@ fn check<S: Source, K: Sink>(alloc: Global, source: &mut S, sink: &mut K) -> Sta
 /// written as soon as it is known.
 ///
 /// The line for query K is `query K accepted` or `query K rejected`. A query is rejected if it has no answer, or if its answer
-/// isn't a certificate. An answer without a query is rejected too. The first rejection ends the check. If there is none, the last
-/// line is `checked COUNT`, where COUNT is the number of answers. In this case each answer is a certificate, and what it claims
-/// about all infinite configurations is true.
+/// isn't a certificate. An answer without a query is rejected too. The first rejection ends the check. If there is none, the
+/// last line is `checked COUNT`, where COUNT is the number of answers. In this case each answer is a certificate, and what it
+/// claims is true.
 ///
 /// Three kinds of input are refused, each with one line:
 /// - `refused long`: the input has more than `MOST_OUTPUT` bytes.
 /// - `refused at OFFSET`: the input isn't an output. OFFSET is the length of its longest prefix with which an output can begin.
-/// - `refused script C KIND`: the script part of the output isn't a script. C is the number of the command at fault, and KIND says
-///   what is wrong with it.
+/// - `refused script C KIND`: the script part of the output isn't a script. C is the number of the command at fault, or 0 if
+///   the fault comes before the first command, and KIND says what is wrong.
 ///
 /// If the source fails, nothing is written. If the sink fails or memory runs out, perhaps only a prefix of these lines was written.
 /// At most `MOST_OUTPUT` + 1 bytes are taken from the source.

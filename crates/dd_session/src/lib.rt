@@ -3,8 +3,9 @@
 //! output has an answer to each query. Bytes are read from a source and written to a sink.
 //!
 //! `dd_answer` defines which answers to a query are right. All right answers to a query have the same first line. A certificate
-//! is an answer that a check accepts. Each right answer is a certificate, and what a certificate claims is true. An answer is
-//! UNKNOWN if its query wasn't settled within the limits on the work for one answer. All other answers are definite.
+//! is an answer that a check accepts. Each right answer that an output can hold is a certificate, and what a certificate claims
+//! is true. An answer is UNKNOWN if its query wasn't settled within the limits on the work for one answer. All other answers
+//! are definite.
 //!
 //! Some queries come down to box questions. A box question has a rule (its premise) and a goal: a property of a position, such
 //! as that another rule is broken there. It asks whether no configuration that obeys the premise has the goal at any position.

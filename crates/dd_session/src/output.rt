@@ -1,4 +1,4 @@
-//! The lines for inputs that are refused.
+//! The lines for bytes that aren't a script.
 ghost use Rattle.std.specs.Prelude.{◌≡◌, IfOk, string_bytes, ◌++◌, codes};
 ghost use Rattle.dd_session.specs.Output.{limit_text, IsLineOf, header};
 ghost use Rattle.std.specs.Fmt.{decimal};

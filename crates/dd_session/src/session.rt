@@ -71,7 +71,8 @@ pub(crate) fn refuse<K: Sink>(sink: &mut K, line: &[u8]) -> Status
     }
 }
 
-/// Writes the line for bytes that aren't a script. The line begins with `words`. Returns the status of the session.
+/// Writes the line for bytes that aren't a script. The line begins with `words`. Nothing is written if memory ran out, either
+/// here or when the bytes were parsed. Returns the status of the session.
 pub(crate) fn refuse_fault<K: Sink>(
     alloc: Global,
     words: &str,
@@ -110,7 +111,7 @@ fn run_accepted<K: Sink, E: Engine>(
     }
 }
 
-/// The status of a run that came to its end.
+/// The status of a run that came to its end, or of a check that rejected nothing.
 pub(crate) fn status_of(has_unknown: bool) -> Status
     ensures { result ≡ status_of has_unknown }
 {
@@ -239,11 +240,12 @@ fn run_sample<K: Sink, E: Engine>(
 /// Does what the words after the program's name ask for: `run`, `check`, or `sample` and a number. With other words it does
 /// nothing.
 ///
-/// `run` reads a script from the source and writes its output to the sink, with a right answer to each query. Each answer is one
-/// that an output can hold: its numbers and lists are within their bounds. The status says whether some answer is UNKNOWN. This
-/// depends on the script alone. An input of more than `MOST_SCRIPT` bytes is refused with the line `refused long`. An input that
-/// isn't a script is refused with the line `refused C KIND`: C is the number of the command at fault, and KIND says what is wrong
-/// with it. At most `MOST_SCRIPT` + 1 bytes are taken from the source.
+/// `run` reads a script from the source and writes its output to the sink, with a right answer to each query. Each answer is
+/// one that an output can hold: its numbers and lists are within their bounds. The status says whether some answer is UNKNOWN.
+/// This depends on the script alone. An input of more than `MOST_SCRIPT` bytes is refused with the line `refused long`. An
+/// input that isn't a script is refused with the line `refused C KIND`: C is the number of the command at fault, or 0 if the
+/// fault comes before the first command, and KIND says what is wrong. At most `MOST_SCRIPT` + 1 bytes are taken from the
+/// source.
 ///
 /// `check` reads an output and checks it, as `check_diddy` says.
 ///
@@ -255,9 +257,9 @@ fn run_sample<K: Sink, E: Engine>(
 /// written.
 ///
 /// `run` and `sample` ask the engines of the roster before each search that a box question needs. What is written is right,
-/// whatever the engines propose. A run comes to its end if its status is `Definite` or `SomeUnknown`. The status and the first
-/// line of each answer are the same with every roster with which the run comes to its end. With some rosters it may not come to
-/// its end, since an engine may run out of memory.
+/// whatever the engines propose. A run comes to its end if its status is `Definite` or `SomeUnknown`. If it comes to its end,
+/// its status and the first line of each answer don't depend on the roster. With some rosters it may not come to its end, since
+/// an engine may run out of memory.
 ///
 /// On every return all sound engines are still in the roster, in the same order. The header of an output is all lines before the
 /// first answer. `run` asks no engine before the whole header is written, and none for an input that is refused. `check` asks no

@@ -1,6 +1,7 @@
 //! How a session ended.
 
-/// How a session ended. The variant's number is the exit code of the program.
+/// How a session ended. The variant's number is the exit code of the program. If the status is `Definite` or `SomeUnknown`, a
+/// run has answered every query, and a check has accepted an answer to every query.
 #[derive(Clone, Copy, Debug, PartialEq, Eq)]
 pub enum Status {
     /// Every query has a definite answer.

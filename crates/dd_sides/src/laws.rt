@@ -12,16 +12,16 @@ ghost use Rattle.dd_sides.specs.Sides.{side, IsSide};
 ghost use Rattle.dd_sides.specs.Boundaries.{outer_count};
 ghost use Rattle.dd_sides.specs.Lifted.{HoldsOnSides};
 
-/// Does nothing; its contract describes the box of side n at u. The box has the positions of Side(n), moved by u. Here Side(n)
-/// is the box of side n whose least corner is the origin. A sum over the box counts each of its positions once. Grown by e,
-/// the box has exactly the positions within e of it.
+/// Does nothing; its contract describes the box of side n at u, for n at least 1. The box has the positions of Side(n), moved
+/// by u. Here Side(n) is the box of side n whose least corner is the origin. A sum over the box counts each of its positions
+/// once. Grown by e, the box has exactly the positions within e of it.
 #[tactic(auto, using(crate::proofs::SideParts::side_is))]
 pub fn sides_are()
     ensures { (d n : ℕ) (u : Place) → 1 ≤ d → 1 ≤ n → is_flat d u ≡ true → IsSide d n u }
 {}
 
-/// Does nothing; its contract says that two totals are equal: what the positions of a box receive along a vector v, and what the
-/// positions of this box, after it is moved by -v, give along v.
+/// Does nothing; its contract says that two totals are equal: what the positions of a box receive along a vector v, and what
+/// the positions of the box moved by -v give along v.
 #[tactic(auto, using(crate::specs::lemmas::BoxLaws::box_moved))]
 pub fn received_is_given()
     ensures { (s : Size) (u v : Place) (give : Place → ℕ) → box_sum s u (λ p. give (seen_from v p)) ≡ box_sum s (seen_from v u) give }
@@ -34,8 +34,9 @@ pub fn boundary_count()
         box_sum (side d n) u (from_outside (side d n) u v) ≡ outer_count d n v }
 {}
 
-/// Does nothing; its contract says that a certified bound holds over every box, of any side length and at any position. The box
-/// weighs at least the bound times the number of its positions, less what the box may receive from outside.
+/// Does nothing; its contract says that a certified bound holds over every box, of any side length and at any position. Grow
+/// the box by `reach_of`. In each admissible filling of the grown box, the box weighs at least the bound times the number of
+/// its positions, less what it may receive from outside.
 pub fn bound_holds()
     ensures { (x : LocalRule) (ws : List ℕ) (radius margin : ℕ) (vs : List Place) (b : Bound) → IsRule x → AreVectors x.dimension vs →
         IsBoundCertificate x ws radius margin vs b → HoldsOnSides x ws radius margin vs b }

@@ -74,10 +74,10 @@ subtract_step q us bs i a b v p r e =
     drop-set_past : (us : List Exact) (i : ℕ) (v : Exact) → drop (i + 1) (slice_set us i v) ≡ drop (i + 1) us
     drop-set_past us i v = drop-set-lt (i + 1) us i v (omega arith)
 
--- a loop that maps a list in place while a test holds
 unread_in : {X : Type 0} (f : X → X) (xs ys : List X) (i : ℕ) (x : X) → i < length xs → ys ≡ map f (take i xs) ++ drop i xs → get_or ys i x ≡ get_or xs i x
 unread_in f xs ys i x p e = grind (arith, common_steps, length-map (take i xs) f)
 
+-- one step of a loop that maps a list in place while a test holds
 pub in_place_step : {X : Type 0} (f : X → X) (fit : X → Bool) (xs ys : List X) (i : ℕ) (x y : X) → i < length xs → x ≡ get_or ys i x → list_all fit (take i xs) ≡ true
     → ys ≡ map f (take i xs) ++ drop i xs → fit x ≡ true → y ≡ f x
     → (list_all fit (take (i + 1) xs) ≡ true) × (slice_set ys i y ≡ map f (take (i + 1) xs) ++ drop (i + 1) xs)

@@ -1,4 +1,5 @@
--- At the end, the values of the columns and the duals are feasible and give the same value, so no other feasible values of the columns give more.
+-- At the end, the columns have feasible values, and the duals are feasible. The dual objective is equal to the value of column 0. So no other
+-- feasible values of the columns give column 0 a greater value.
 use Rattle.std.proofs.Common.{◌≡◌, ◌≢◌, ℕ, zero, suc, ◌+◌, ◌-◌, ◌<◌, List, length, Bool, true, false, cond, None, refl, sym, ap, subst, ◌∙◌, arith}
 use Rattle.std.specs.Bool.{nat_lt}
 use Rattle.dd_fraction.specs.{Exact.Exact, Exact.plus, Exact.times, Exact.minus, Exact.low, Order.IsNonneg, Order.IsAtMost}
@@ -54,19 +55,19 @@ module _ (p : LinearProgram) (d : Dictionary) (g : IsProgram p) (r : IsReached p
       (λ i. plus (total_same (λ j. times (coefficient p k j) (joined p u s j)) (λ j. times (coefficient p k j) (u j)) p.columns (λ j t. ap (times (coefficient p k j)) (joined_column p u s j t)) i) (joined_slack p u s k i))
       ∙ h k q
 
-  -- all columns are 0, and the slacks are the bounds
   nothing : (f : ℕ → Exact) (l : ℕ) → fraction_sum (λ j. times (f j) zero_of) l ≡ zero_of
   nothing f l = total_none (λ j. times (f j) zero_of) l (λ j _. times_zero (f j))
 
+  -- if all columns are 0, the slacks are the bounds
   nothing_meets : (k : ℕ) → k < length p.rows → plus (fraction_sum (λ j. times (coefficient p k j) zero_of) p.columns) (bound_at p k) ≡ times one_of (bound_at p k)
   nothing_meets k q = ap (λ (t : Exact). plus t (bound_at p k)) (nothing (coefficient p k) p.columns) ∙ (zero_plus (bound_at p k) ∙ sym (one_times (bound_at p k)))
 
-  -- one column is 1 and the others are 0, and the slacks are the opposites of its coefficients
   column_alone : (j : ℕ) → j < p.columns → (f : ℕ → Exact) → fraction_sum (λ w. times (f w) (unit w j)) p.columns ≡ low (f j)
   column_alone j q f =
       total_pick (λ w. times (f w) (unit w j)) j p.columns q (λ w _ k. ap (λ (b : Bool). times (f w) (cond b one_of zero_of)) (eq_other w j k) ∙ times_zero (f w))
       ∙ (ap low (ap (λ (b : Bool). times (f j) (cond b one_of zero_of)) (eq_same j) ∙ times_one (f j)) ∙ low_low _ _)
 
+  -- if one column is 1, the others are 0, and the bounds are replaced by 0, the slacks are the opposites of this column's coefficients
   column_meets : (j : ℕ) → j < p.columns → (k : ℕ) → k < length p.rows
       → plus (fraction_sum (λ w. times (coefficient p k w) (unit w j)) p.columns) (minus (coefficient p k j)) ≡ times zero_of (bound_at p k)
   column_meets j q k t =

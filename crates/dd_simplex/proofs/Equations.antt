@@ -1,5 +1,5 @@
 -- What a dictionary says about its variables: an equation for each basic one, and the objective. A pivot changes neither the solutions of the
--- equations nor the objective's value.
+-- equations nor the objective's value at a solution.
 use Rattle.std.proofs.Common.{◌≡◌, ◌≢◌, ℕ, ◌<◌, Bool, true, false, ◌&&◌, ⊎_elim, refl, sym, ap, subst, ◌∙◌, arith}
 use Rattle.std.proofs.lemmas.Bool.{cases_eq}
 use Rattle.std.specs.Bool.{nat_eq}
@@ -144,7 +144,7 @@ price_then n d e r w t = ⊎_elim at_e (λ (h : w ≢ e). ⊎_elim (at_r h) (λ 
     other h l true s = rw (eq_other w e h, eq_other w r l, s) (sym (idle zero_of (minus q) ∙ zero_is))
     other h l false s = rw (eq_other w e h, eq_other w r l, eq_same e e refl, s) (ap (plus (d.cost w)) (minus_times q _))
 
--- ---- a pivot preserves the solutions of the equations, and the value of the objective
+-- ---- a pivot preserves the solutions of the equations, and the value of the objective at each solution
 bound_new : (d : Dictionary) (e r : ℕ) → (pivoted d e r).bound e ≡ new_bound d e r
 bound_new d e r = rw (eq_same e e refl) refl
 

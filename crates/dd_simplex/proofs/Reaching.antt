@@ -1,5 +1,5 @@
 -- What holds for each dictionary that a run reaches. Its bounds are at least 0, its equations have the same solutions as those of the first
--- dictionary, and its objective has the same value at each solution.
+-- dictionary, and at each solution its objective is equal to column 0.
 use Rattle.std.proofs.Common.{◌≡◌, ◌≢◌, ℕ, zero, suc, ◌+◌, ◌-◌, ◌<◌, ◌≤◌, length, Bool, true, false, not, ◌&&◌, ◌||◌, Some, None, ◌⊎◌, inl, inr, ⊎_elim, refl, sym, ap, subst, ◌∙◌, arith}
 use Rattle.std.proofs.lemmas.{Bool.cases_eq, Int.ints}
 use Rattle.std.specs.{Bool.nat_lt, Ordering.is_gt, Int.RustNames.int_lt, declared.cmp.Ordering.Ordering}
@@ -111,7 +111,7 @@ sign_cases (pos zero) = inr (omega (arith, ints))
 sign_cases (pos (suc n)) = inl (omega (arith, ints))
 sign_cases (negsuc n) = inr (omega (arith, ints))
 
--- if b and y are at least 0, then so is b - a · y, provided that y is at most b / a if a is greater than 0
+-- Let b and y be at least 0. If a is greater than 0, let y be at most b / a. Then b - a · y is at least 0.
 bound_sign : (a b y : Exact) → IsNonneg b → IsNonneg y → (IsPositive a → IsAtMost y (times b (inverse a))) → IsNonneg (less_product b a y)
 bound_sign a b y p q least = ⊎_elim up down (sign_cases a.num)
   where

@@ -19,13 +19,13 @@ pub record HasOneStop (p : LinearProgram) (k : ℕ) : Type 0 where
   pub overflow_alone : RunOverflows p k → RunPivots p k → ⊥
   pub same_end : (a b : DoesEnd p k) → (a.value ≡ b.value) × (a.columns ≡ b.columns) × (a.duals ≡ b.duals)
 
--- the dictionary after one pivot from d and then the pivots of `next`, or `None` if no variable enters or none leaves
+-- what `next` gives after one pivot from d, or `None` if no variable enters or none leaves
 abbrev pub after_iteration : (Dictionary → Option Dictionary) → Dictionary → Option ℕ → Option ℕ → Option Dictionary
 after_iteration next d (Some e) (Some r) = next (pivoted d e r)
 after_iteration next d (Some e) None = None
 after_iteration next d None o = None
 
--- the variable that leaves when the given variable enters, or `None` if none enters
+-- the variable that leaves when the given variable enters, or `None` if none enters or none leaves
 abbrev pub leaving_for : ℕ → Dictionary → Option ℕ → Option ℕ
 leaving_for n d (Some e) = leaving n d e
 leaving_for n d None = None

@@ -1,4 +1,4 @@
--- Linear programs over exact fractions. A column is a variable of the program. Duals are factors for the rows. They serve to prove that values of
+-- Linear programs over exact fractions. A column is a variable of the program. Duals are factors for the rows. They serve to show that values of
 -- the columns are best.
 use Rattle.std.specs.Prelude.{◌≡◌, ℕ, zero, suc, ◌<◌, ◌-◌, List, [], ◌∷◌, length, slice_index_or, replicate, cond}
 use Rattle.std.specs.Bool.{nat_eq}
@@ -77,8 +77,8 @@ pub record AreDuals (p : LinearProgram) (duals : List Exact) : Type 0 where
 abbrev pub dual_objective : LinearProgram → List Exact → Exact
 dual_objective p duals = fraction_sum (λ k. times (fraction_at duals k) (bound_at p k)) (length p.rows)
 
--- The values of the columns and the duals are feasible, and give the same value. So no other feasible values of the columns give
--- column 0 a greater value.
+-- The columns have feasible values, and the duals are feasible. Column 0 and the dual objective are both equal to `value`. So no other feasible
+-- values of the columns give column 0 a greater value.
 pub record IsBest (p : LinearProgram) (value : Exact) (columns duals : List Exact) : Type 0 where
   pub feasible : IsFeasible p columns
   pub dual : AreDuals p duals

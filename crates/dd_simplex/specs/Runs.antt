@@ -104,7 +104,7 @@ pub data Stop : Type 0 where
   Overflows : Stop
   -- a variable may enter, but no pivot is left
   AtLimit : Stop
-  -- no variable limits the one that enters
+  -- no variable limits the one that enters; the first row of a program rules this out
   Unbounded : Stop
 
 -- an iteration in which e enters, and then the run `next`. The last argument is the variable that leaves, if there is one.

@@ -8,7 +8,7 @@ use thiserror::Error;
 /// The reason why a run of the simplex method has no result.
 #[derive(Clone, Copy, Debug, PartialEq, Eq, Error)]
 pub enum SimplexFault {
-    /// A number in the run is greater than 2^127 - 1 in absolute value.
+    /// An intermediate number of the run is greater than 2^127 - 1 in absolute value.
     #[error("a number of the simplex run exceeds 127 bits")]
     Overflow,
     /// The run needs more pivots than its limit.

@@ -3,8 +3,8 @@ ghost use Rattle.dd_simplex.specs.Laws.{HasOneStop, AreSoundDictionaries};
 
 use crate::program::Program;
 
-/// Does nothing; its contract says that a run stops in exactly one of three ways: it ends with one result, one of its numbers
-/// is greater than 2^127 - 1 in absolute value, or it reaches its limit of pivots.
+/// Does nothing; its contract says that a run stops in exactly one of three ways: it ends with one result, an intermediate
+/// number is greater than 2^127 - 1 in absolute value, or it reaches its limit of pivots.
 pub fn one_stop(_program: &Program, _pivots: u32)
     ensures { HasOneStop _program.now _pivots }
 {

@@ -35,7 +35,8 @@ impl Line {
         self.basic
     }
 
-    /// Solves the line for the variable `entering`, which is at the place `e`. Returns false if a number is too large.
+    /// Solves the line for the variable `entering`, which is at the place `e`. The old basic variable then has the place `e`.
+    /// Returns false if a number is too large.
     pub fn solve(&mut self, e: usize, entering: usize) -> bool
         requires place { e < length self.old.cells }
         requires cell { (fraction_at self.old.cells e).num ≢ pos 0 }

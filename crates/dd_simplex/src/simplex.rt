@@ -10,12 +10,11 @@ use crate::start::first_tableau;
 use std::alloc::{AllocError, Global};
 
 /// Maximises column 0 by Bland's rule (1977) in at most `pivots` pivots. The values found for the columns are at least 0 and
-/// meet each row. No other such values give column 0 a greater value. The duals prove this: the bounds times the duals sum to
-/// the value of column 0.
+/// meet each row. No other such values give column 0 a greater value. The duals show this (see `Solved`).
 ///
 /// # Errors
 /// - `Memory` if memory ran out. Otherwise:
-/// - `Overflow` exactly when a number in the run is greater than 2^127 - 1 in absolute value.
+/// - `Overflow` exactly when an intermediate number of the run is greater than 2^127 - 1 in absolute value.
 /// - `Pivots` exactly when a variable may still enter after `pivots` pivots.
 pub fn maximise(alloc: Global, program: &Program, pivots: u32) -> Result<Solved, SimplexFault>
     ensures ends { IfOk result (λ solved. RunEnds program.now pivots solved.value solved.columns solved.duals) }

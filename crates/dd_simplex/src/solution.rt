@@ -9,9 +9,9 @@ use dd_fraction::Fraction;
 use dd_values::Items;
 use std::alloc::{AllocError, Global};
 
-/// The best values for the columns of a program, and duals that prove that they are best. Each row has a dual, which is at
-/// least 0. If each row is multiplied by its dual, the sum of the rows has a coefficient of at least 1 in column 0, and of at
-/// least 0 in every other column. The bounds times the duals sum to the value.
+/// The best values for the columns of a program, and duals that show that they are best. Each row has a dual, which is at least
+/// 0. If each row is multiplied by its dual, the sum of the rows has a coefficient of at least 1 in column 0, and of at least 0
+/// in every other column. The bound of this sum is `value`.
 #[derive(Debug, Drop)]
 pub struct Solved {
     /// The greatest value of column 0.

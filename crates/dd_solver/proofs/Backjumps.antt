@@ -1,5 +1,5 @@
--- The backjump. Once the trail is cut before the backjump's decision, the learned clause forces the literal that was kept first. This is so because
--- the entries kept later stand before that decision.
+-- The backjump. Once the trail is cut before the backjump's decision, the learned clause forces the negated literal of the entry that was kept first.
+-- This is so because the entries kept later stand before that decision.
 use Rattle.std.proofs.Common.{◌≡◌, ℕ, ◌+◌, ◌<◌, ◌≤◌, Bool, true, false, List, [], ◌∷◌, ◌++◌, Option, Some, None, refl, ap, sym, ◌∙◌, subst, length, get_or, take, inl, inr, ◌⊎◌, arith}
 use Rattle.std.proofs.lemmas.Bool.{false≢true, false_from_ne_true, cases_lt}
 use Rattle.std.specs.Option.{MatchOption}

@@ -44,7 +44,8 @@ hinted_by number [] steps = false
 hinted_by number (m ∷ marked) [] = false
 hinted_by number (m ∷ marked) (s ∷ steps) = (m && is_hint number s.hints) || hinted_by number marked steps
 
--- The facts about the step with the number `next` and the steps after it. The clauses that are kept before it have new numbers up to `last`.
+-- What has to hold of the step s with the number `next` and the mark m. `steps` and `marked` are the steps after it and their marks. `keep` says
+-- which clauses are kept, by their numbers, and `rename` gives their new numbers. `last` is the new number of the last clause that is kept before s.
 pub record IsPlanned (keep : ℕ → Bool) (rename : ℕ → ℕ) (next last : ℕ) (m : Bool) (s : Step) (marked : List Bool) (steps : List Step) : Type 0 where
   pub same : keep next ≡ m
   pub number : m ≡ true → rename next ≡ suc last

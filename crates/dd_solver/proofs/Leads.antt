@@ -16,7 +16,8 @@ use Rattle.dd_solver.specs.searching.Analysis.{marks, Grows, AreMarked, IsMarked
 use Rattle.dd_solver.proofs.Forcing.{in_left, in_right, in_cases, in_one, falsified_all, all_falsified, forced_from, hint_clause, at_clause}
 use Rattle.dd_solver.proofs.Trails.{apart}
 
--- `start` may be the list of the false literals just before the hints for the entries from place i on are followed
+-- `start` holds literals that may be false once the hints for the entries before place i have been followed: all learned literals, the negated
+-- literals of all marked entries before i, and perhaps those of other entries before i
 pub record Start (trail : List Entry) (i : ℕ) (marked : List Bool) (learned start : List Literal) : Type 0 where
   pub within : (x : Literal) → In start x → (In (falses (take i trail)) x) ⊎ (In learned x)
   pub learned_in : (x : Literal) → In learned x → In start x

@@ -80,7 +80,7 @@ module _ (n : ℕ) (cs : List (List Literal)) (steps : List Step) (trail : List 
         derived = derived_more n (all_known cs) steps t s.derived (right_from n before t r m.deletable);
       }
 
-  -- the new step forces a literal, or the steps refute the clauses
+  -- the new step's clause forces a literal, or the steps refute the clauses
   pub goes_on : (t : Step) (backjump : Option Backjump) → is_rightly_learned n (known_through (all_known cs) steps) t.clause t.hints ≡ true → MayDelete (known_through (all_known cs) steps) (length cs) trail t.deletes → MatchOption backjump (t.clause ≡ []) (Asserts trail t.clause) → GoesOn (record { variables = n; clauses = cs; steps = steps ++ t ∷ []; entries = trail }) backjump
   goes_on t None r m e = refutes_last n (all_known cs) steps t s.derived (right_from n (known_through (all_known cs) steps) t r m.deletable) e
   goes_on t (Some u) r m e =

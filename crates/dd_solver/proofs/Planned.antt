@@ -108,7 +108,7 @@ agree clauses marked numbers h x k e =
     let l : leb h (length clauses) ≡ true = le-leb h (length clauses) (omega (arith, length-all clauses, w)) in
     rw l e
 
--- the marked steps under their new numbers refute the clauses, and each but the last is used
+-- the marked steps with their new numbers refute the clauses
 pub marked_refute : (n : ℕ) (clauses : List (List Literal)) (steps : List Step) (marked : List Bool) → IsMarking (length clauses) 0 steps marked → refutes n clauses steps ≡ true → refutes n clauses (kept_steps (renamed (length clauses) (numbers_from (length clauses) marked)) marked steps) ≡ true
 marked_refute n clauses steps marked m r =
     let c = length clauses in
@@ -116,6 +116,7 @@ marked_refute n clauses steps marked m r =
     let p = plan (is_kept c marked) (renamed c numbers) (suc c) c marked steps (facts c marked steps m) in
     refutes_kept n (is_kept c marked) (renamed c numbers) (suc c) c marked steps (all_known clauses) (all_known clauses) m.as_many (ap suc (sym (length-all clauses))) (sym (length-all clauses)) p (agree clauses marked numbers) r
 
+-- each marked step but the last is used
 pub marked_used : (clauses : ℕ) (steps : List Step) (marked : List Bool) → IsMarking clauses 0 steps marked → are_used (suc clauses) (kept_steps (renamed clauses (numbers_from clauses marked)) marked steps) ≡ true
 marked_used clauses steps marked m =
     let numbers = numbers_from clauses marked in

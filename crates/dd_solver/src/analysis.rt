@@ -1,9 +1,9 @@
-//! The clause that is learned from a conflict. A conflict is a clause whose literals are all false. The learned clause is that of
-//! the first unique implication point (Marques-Silva and Sakallah 1999). The analysis marks the variables of the conflict. Then it
-//! walks down the trail, from the newest entry to the oldest, and resolves or keeps each entry whose variable is marked. If an
-//! entry is resolved, the variables of the clause that forced it are marked too. If an entry is kept, the negation of its literal
-//! goes into the learned clause. Whatever is kept, the learned clause follows: the numbers of the conflict and of the
-//! resolved clauses are hints that show this. So no contract says which entries are best kept.
+//! The clause that is learned from a conflict. The analysis marks the variables of the conflict. Then it walks down the trail,
+//! from the newest entry to the oldest, and resolves or keeps each entry whose variable is marked. To resolve an entry means to
+//! resolve with the clause that forced it. The variables of this clause are marked too. If an entry is kept, the negation of
+//! its literal goes into the learned clause. The first entry that is kept is the first unique implication point (Marques-Silva
+//! and Sakallah 1999). Whatever is kept, the learned clause follows: the numbers of the conflict and of the resolved clauses
+//! are hints that show this. So no contract says which entries are best kept.
 ghost use Rattle.std.specs.Prelude.{◌≡◌, ℕ, ◌<◌, ◌≤◌, true, [], length, IfOk, MatchOption, slice_index_or, ⊤};
 ghost use Rattle.dd_clause.specs.Clauses.{IsLiteralInRange, IsClauseInRange};
 ghost use Rattle.dd_derivation.specs.declared.propagation.Finding.TheVariants.{Falsified};
@@ -149,10 +149,11 @@ fn backjump_at_decision(entries: &[Entry], marked: &[bool], place: usize) -> Bac
     }
 }
 
-/// Chooses what to do with the marked entry at this place. A decision is kept. As long as no entry has been kept, a forced entry
-/// is resolved if `open` is above 0 or there is no backjump for it. `open` is the number of marked entries before this place that
-/// are latest. Once an entry has been kept, a forced entry is resolved if its clause adds nothing or it comes before every
-/// decision. In all other cases it is kept.
+/// Chooses what to do with the marked entry at this place. `backjump` is that of the first entry kept, or `None` if none has
+/// been kept yet. `open` is the number of marked entries before this place that are latest. A decision is kept. As long as no
+/// entry has been kept, a forced entry is resolved if `open` is above 0 or there is no backjump for it. Once an entry has been
+/// kept, a forced entry is resolved if its clause adds nothing or it comes before every decision. In all other cases it is
+/// kept.
 fn choose(
     database: &Database,
     trail: &Trail,
@@ -308,7 +309,7 @@ fn bump_reasons(
 }
 
 /// Makes the variables of the learned clause more active once again, and then the variables of the clauses that forced their
-/// values.
+/// values, unless they are fixed.
 fn bump_again(
     order: &mut Order,
     database: &Database,

@@ -1,9 +1,9 @@
 //! Which learned clauses are deleted, and when. The decision level of a variable's value is the number of decisions on the
-//! trail up to and including the variable's entry. The levels of a clause are the decision levels at which its literals got
-//! their values. A clause is worth more if it has fewer levels (Audemard and Simon 2009). From time to time a review deletes
-//! the worse half of the learned clauses that may be deleted. No clause that forced a literal of the trail is deleted. Whatever
-//! a review chooses, clauses that forced a literal and clauses that are not alive are left out at the end. So no contract
-//! depends on the counts kept here.
+//! trail up to and including the variable's entry. The levels of a clause are the different decision levels above 0 at which
+//! its literals got their values. A clause is worth more if it has fewer levels (Audemard and Simon 2009). From time to time a
+//! review deletes the worse half of the learned clauses that may be deleted. No clause that forced a literal of the trail is
+//! deleted. Whatever a review chooses, clauses that forced a literal and clauses that are not alive are left out at the end. So
+//! no contract depends on the counts kept here.
 ghost use Rattle.std.specs.Prelude.{◌≡◌, ℕ, List, ◌<◌, false, length, IfOk, Some, slice_index_or};
 ghost use Rattle.dd_clause.specs.declared.clause.Literal.{Literal};
 ghost use Rattle.dd_solver.specs.searching.Deleting.{AreChosen, MayDelete};
@@ -27,19 +27,20 @@ const KEPT_LEVELS: u32 = 2;
 /// A clause with at most this many literals is never deleted.
 const KEPT_LENGTH: usize = 2;
 
-/// A learned clause that may be deleted. One candidate comes before another if it has fewer levels. If both have as many
+/// A learned clause that may be deleted. One candidate comes before another if it has fewer levels. If both have equally many
 /// levels, the shorter one comes first, and if they are also equally long, the newer one. The half that comes first is kept.
 #[derive(Clone, Copy, PartialEq, Eq, PartialOrd, Ord)]
 struct Candidate {
     levels: u32,
     length: usize,
+    /// 1 for the newest learned clause, 2 for the one learned before it, and so on.
     age: usize,
 }
 
 /// The worth of the learned clauses, and when the next review is due.
 #[derive(Drop)]
 pub(crate) struct Deletion {
-    /// How many levels each learned clause has.
+    /// For each learned clause, the lowest count of its levels so far.
     levels: Vec<u32>,
     /// For each level, the number of the last call of `count_levels` that met this level, or 0 if none did. The calls are
     /// numbered from 1, so nothing needs to be cleared between them.
@@ -127,8 +128,8 @@ impl Deletion {
         None
     }
 
-    /// Counts the levels of the clause with this number again, if it is a learned clause that had more than `KEPT_LEVELS`
-    /// levels at the last count. Keeps the lower of the old and the new count.
+    /// Counts the levels of the clause with this number again, if it is a learned clause whose lowest count so far is above
+    /// `KEPT_LEVELS`. Keeps the lower of the two counts.
     fn lower(&mut self, database: &Database, trail: &Trail, clauses: usize, number: u64) {
         let Some(place) = self.place(clauses, number) else {
             return;
@@ -212,8 +213,9 @@ impl Deletion {
         true
     }
 
-    /// Takes note of a learned clause, given by its literals and its hints. Returns the numbers of the clauses to delete, of
-    /// which there are none if no review is due. `clauses` is the number of clauses in the list.
+    /// Takes note of a learned clause, given by its literals and its hints. Counts its levels, and once more the levels of the
+    /// learned clauses that the hints name. Returns the numbers of the clauses to delete: none, if no review is due. `clauses`
+    /// is the number of clauses in the list.
     pub(crate) fn note_learned(
         &mut self,
         alloc: Global,

@@ -1,10 +1,9 @@
-//! The search (Marques-Silva and Sakallah 1999, Eén and Sörensson 2003). The trail lists the literals that are true, in the
-//! order in which they became true. A clause forces a literal if all its other literals are false. The search first propagates:
-//! it makes forced literals true. A conflict is a clause whose literals are all false. At a conflict, the search learns a
-//! clause, and goes back to where this clause forces a literal; this is a backjump. If there is no conflict, it decides a
-//! variable, that is, it chooses a value for the variable. Each learned clause is a step of a refutation. The search ends,
-//! because the trail, read as a number in base 3, rises with each propagation, decision and backjump, and is bounded. In the
-//! contracts, `left` is the distance of this number from its bound.
+//! The search (Marques-Silva and Sakallah 1999, Eén and Sörensson 2003). It first propagates: it makes forced literals true. At
+//! a conflict, it learns a clause, and goes back to where this clause forces a literal; this is a backjump. If there is no
+//! conflict, it decides a variable, that is, it chooses a value for the variable. Each learned clause becomes a step. Once a
+//! learned clause is empty, the steps are a refutation. The search ends, because the trail, read as a number in base 3, rises
+//! with each propagation, decision and backjump, and is bounded. In the contracts, `left` is the distance of this number from
+//! its bound.
 ghost use Rattle.std.specs.Prelude.{◌≡◌, ℕ, ◌+◌, ◌<◌, ◌≤◌, ◌^◌, ◌++◌, ◌∷◌, [], true, false, List, length, All, IfOk, OnOk, OnErr, MatchOption, IsTrue, ◌↔◌};
 ghost use Rattle.dd_clause.specs.declared.clause.Literal.{Literal};
 ghost use Rattle.dd_clause.specs.Clauses.{IsClauseInRange, Satisfies};
@@ -52,7 +51,7 @@ impl<'a> Model for Search<'a> {
     ghost invariant = { λ s. IsSearch (record { variables = s.trail.variables; clauses = s.clauses.now; steps = s.steps.items; entries = s.trail.entries }) × (length s.marked.items ≡ s.trail.variables) × (s.trail.variables < 2 ^ 32) × AreAlive s.clauses.now s.steps.items s.alive.items };
 }
 
-/// Adds a step. Its clause is alive from then on, and the clauses that it deletes are not.
+/// Adds a step. Its clause is then alive, and the clauses that it deletes no longer are.
 fn push_step(steps: &mut Vec<Step>, alive: &mut Vec<bool>, step: Step) -> Result<(), AllocError>
     ensures steps { OnOk result (steps.new.items ≡ steps.old.items ++ step ∷ []) }
     ensures alive { OnOk result ((cs : List (List Literal)) → known_of cs alive.new.items ≡ known_after (known_of cs (alive.old.items ++ true ∷ [])) step.deletes) }
@@ -145,8 +144,8 @@ impl<'a> Search<'a> {
         Ok(true)
     }
 
-    /// Learns a clause from a falsified one, and adds it as a step. Returns where to go back to, or `None` if the steps now
-    /// refute the clauses.
+    /// Learns a clause from the falsified one with the number `conflict`, and adds it as a step. The step may delete clauses.
+    /// Returns where to go back to, or `None` if the steps now refute the clauses.
     fn analyse(&mut self, alloc: Global, conflict: u64) -> Result<Option<Backjump>, AllocError>
         requires { IsFalsified self.old conflict }
         ensures same { (self.new.variables ≡ self.old.variables) × (self.new.clauses ≡ self.old.clauses) × (self.new.entries ≡ self.old.entries) }
@@ -257,8 +256,8 @@ pub fn solve(alloc: Global, cnf: &Cnf) -> Result<Outcome, AllocError>
     solve_with(alloc, cnf, Style::Broad)
 }
 
-/// Like `solve`, but with a given style of search. The style affects how long the search takes, and which assignment or which
-/// steps it finds.
+/// Like `solve`, which searches in the broad style, but with a given style. The style affects how long the search takes, and
+/// which assignment or which steps it finds.
 pub fn solve_with(alloc: Global, cnf: &Cnf, style: Style) -> Result<Outcome, AllocError>
     ensures answer { IfOk result (IsAnswer cnf.now.variables cnf.now.clauses) }
     ensures found { IfOk result (λ outcome. IsFound outcome ↔ IsSatisfiable cnf.now.clauses) }

@@ -1,7 +1,7 @@
-//! The trimming of a refutation. A search learns clauses that its refutation does not need in the end. Trimming marks the last
-//! step. Then it walks back from there to the first step, and for each marked step marks the steps that its hints name (Goldberg
-//! and Novikov 2003). The marked steps are kept, and get new numbers. Their hints name the same clauses as before, by the new
-//! numbers. They delete nothing.
+//! The trimming of a refutation. A search also learns clauses that its refutation does not need in the end. Trimming marks the
+//! last step. Then it walks back from there to the first step, and for each marked step marks the steps that its hints name
+//! (Goldberg and Novikov 2003). The marked steps are kept, and get new numbers. Their hints name the same clauses as before, by
+//! the new numbers. The kept steps delete nothing.
 ghost use Rattle.std.specs.Prelude.{◌≡◌, ℕ, suc, ◌+◌, ◌<◌, ◌≤◌, ◌^◌, ◌||◌, [], true, false, length, map, All, IfOk, MatchOption, slice_index_or};
 ghost use Rattle.dd_derivation.specs.Derivations.{refutes};
 ghost use Rattle.dd_solver.specs.Trimming.{is_hint, are_used};
@@ -63,8 +63,8 @@ fn mark_used(alloc: Global, clauses: usize, steps: &[Step]) -> Result<Vec<bool>,
     Ok(marked)
 }
 
-/// The new number of each marked step, once only the marked steps are left. An unmarked step gets the new number of the last
-/// marked step before it, or `clauses` if there is none.
+/// The new number that each marked step gets when the unmarked ones are left out. An unmarked step gets the new number of the
+/// last marked step before it, or `clauses` if there is none.
 fn find_numbers(alloc: Global, clauses: usize, marked: &[bool]) -> Result<Vec<u64>, AllocError>
     requires { clauses + length marked.now < 2 ^ 64 }
     ensures { IfOk result (λ numbers. numbers.items ≡ numbers_from clauses marked.now) }

@@ -1,6 +1,6 @@
-//! Laws about the bytes of scripts. Bytes spell a script if they are a text of the grammar, the text has no fault, and the script
-//! is what the text means. Bytes spell exactly one script, or else are refused in exactly one way. The number of bytes doesn't
-//! matter here: a script that is too long is refused before it is read.
+//! Laws about the bytes of scripts. Bytes spell a script if they are a text of the grammar, the text has no fault, and the
+//! script is what the text means. Bytes spell exactly one script, or else are refused in exactly one way. The laws hold for any
+//! number of bytes. The limit on a script's length is not part of the grammar. A run tests this limit before it reads commands.
 #![tactic(auto)]
 
 mod laws;

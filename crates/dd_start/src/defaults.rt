@@ -10,16 +10,17 @@ use dd_topology::{Kind, Names, Sets, Topology};
 use dd_values::{Items, Limits};
 use std::alloc::{AllocError, Global};
 
-/// The greatest radius of a search, if the script sets none.
+/// The search limit on the radius of a box, if the script sets none.
 const RADIUS_AT_START: u32 = 4;
 
-/// The greatest period of a search, if the script sets none.
+/// The search limit on each period of a torus, if the script sets none.
 const PERIOD_AT_START: u32 = 4;
 
-/// The greatest number of pivots of a linear program, if the script sets none.
+/// The limit on the number of pivots of a linear program, if the script sets none.
 const PIVOTS_AT_START: u32 = 10_000;
 
-/// The defaults: the square topology with the node 0, and the symbols 0 and 1, which weigh 0 and 1.
+/// The defaults: the square topology with the node 0, the symbols 0 and 1, which weigh 0 and 1, and search limits of radius 4,
+/// period 4 and 10,000 pivots. The node allows both symbols.
 pub fn start(alloc: Global) -> Result<Known, AllocError>
     ensures known { IfOk result (λ known. known ≡ known_start) }
     ensures sound { OnOk result (IsSound known_start) }
@@ -28,7 +29,7 @@ pub fn start(alloc: Global) -> Result<Known, AllocError>
     let nodes = zero(alloc)?;
     let symbols = zero_and_one(alloc)?;
     let topology = Topology::builtin(alloc, Kind::Square)?;
-    // This call tells the proof what the type guarantees.
+    // This call tells the proof what the type `Topology` guarantees.
     let _dimension = topology.dim();
     let weights = Items::from_slice(alloc, &[0, 1])?;
     Ok(Known {

@@ -203,7 +203,7 @@ module _ (r : LocalRule) (s : Strip) (walk : List ℕ) (rule : IsRule r) (for : 
       lives = λ v a flat node. (kept_there (v.x -ℤ stand r)).true_there v a (there v.x (stand r)) flat node;
     }
 
-    -- the configuration weighs as much as the walk
+    -- the weight of a walk is the total weight of the last slices of its states
     walk_total : (ws : List ℕ) (states_ : List ℕ) → total_below (λ i. slice_weight r s ws (last_slice r s (slice_index states_ i))) (length states_) ≡ walk_weight r s ws states_
     walk_total ws [] = refl
     walk_total ws (u ∷ us) =
@@ -212,6 +212,7 @@ module _ (r : LocalRule) (s : Strip) (walk : List ℕ) (rule : IsRule r) (for : 
         let sum : total_below (λ i. slice_weight r s ws (last_slice r s (slice_index (u ∷ us) i))) (suc (length us)) ≡ walk_weight r s ws (u ∷ us) = omega (arith, rest, first) in
         sum
 
+    -- so the configuration's fundamental box weighs as much as the walk
     pub cycle_weighs : (ws : List ℕ) → tile_weight ws (tile_of r s walk) ≡ walk_weight r s ws walk
     cycle_weighs ws =
         sym (period_total r s (tile_of r s walk) for on_strip ws)

@@ -1,4 +1,4 @@
--- The two laws: from walks and configurations to densities.
+-- The laws `strip_least` and `strip_empty`: fillings and configurations are walks, and a closed walk is a configuration.
 use Rattle.std.proofs.Common.{◌≡◌, ℕ, suc, ◌+◌, ◌-◌, ◌*◌, ◌<◌, ◌≤◌, List, length, ℤ, pos, ◌+ℤ◌, ◌≤ℤ◌, refl, ap, sym, ◌∙◌, subst, arith, inl, inr}
 use Rattle.std.proofs.{Math.Nat.le_of_mul-le-mul_right, Math.Nat.mul-le-mul_left, lemmas.Int.ints, lemmas.Bool.cases_lt}
 use Rattle.dd_pattern.specs.{Reading.Look, Periods.periods_volume, Tile.Tile, Tile.tile_look}
@@ -23,7 +23,7 @@ strip_fits r periods rule is = record {
   z_unused = is.z_unused;
 }
 
--- what the transfer graph says about every look
+-- how the slices of each look that repeats across the strip relate to the transfer graph
 abbrev pub AreEdges : LocalRule → Strip → Type 0
 AreEdges r s = (look : Look) → RepeatsAcross s look → AreEdgesOf r s look
 

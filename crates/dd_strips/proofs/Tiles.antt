@@ -18,7 +18,7 @@ use Rattle.dd_strips.proofs.Sums.{total_below, total_below-same, total_below-row
 use Rattle.dd_strips.proofs.Walks.{weight_none, weight_longer}
 use Rattle.dd_values.specs.lemmas.Numbers.{plus_zero}
 
--- the configuration has the strip's nodes and periods, and symbols of the alphabet
+-- the configuration has the strip's nodes and periods, no shear, and symbols of the alphabet
 pub record IsOnStrip (r : LocalRule) (s : Strip) (t : Tile) : Type 0 where
   pub tile : IsTile t
   pub nodes : t.nodes ≡ s.nodes
@@ -50,7 +50,7 @@ value_at [] k = refl
 value_at (x ∷ xs) zero = refl
 value_at (x ∷ xs) (suc k) = value_at xs k
 
--- the place of a cell's symbol in the configuration's list, from the cell's place along each axis
+-- the place of a cell's symbol in the configuration's list: the cell has the node a, and its coordinates modulo the periods are x, y and z
 abbrev pub spot : Tile → ℕ → ℕ → ℕ → ℕ → ℕ
 spot t x y z a = ((z * t.periods.y + y) * t.periods.x + x) * t.nodes + a
 

@@ -30,17 +30,18 @@ three_of_five = refl
 spread_is : spread_of (pos 1 ∷ negsuc 1 ∷ pos 3 ∷ pos 0 ∷ []) ≡ 5
 spread_is = refl
 
--- the configuration 0 1 0 1 .. on the strip whose slices have one position, for the rule that is always true
+-- the configuration 0 1 0 1 .. on the strip whose slices have one position
 abbrev two : Tile
 two = tile 1 (record { x = 2; y = 1; z = 1; shear = 0 }) 1 (0 ∷ 1 ∷ [])
 
 two_weighs : tile_weight (3 ∷ 4 ∷ []) two ≡ 7
 two_weighs = refl
 
--- no configuration lives on this strip for the rule that is never true
+-- a rule that is true at no cell
 never_true : (look : Look) (c : Cell) → is_true (line (roll-Formula (Formula-F.Or []))) c look ≡ false
 never_true look c = ap (λ (t : Truth). t (c ∷ []) look) (fold-roll-Formula Truth (truth_step []) (Formula-F.Or []))
 
+-- so, for this rule, no configuration lives on the strip whose slices have one position
 none_lives : LivesNowhere (line (roll-Formula (Formula-F.Or []))) (strip_of 1 1 1)
 none_lives t on =
     let false_there = never_true (tile_look t) (cell (place (pos 0) (pos 0) (pos 0)) 0) in

@@ -1,4 +1,5 @@
--- Fillings of the slices of a strip, and configurations that repeat with the strip's periods along the axes after the first.
+-- Fillings of the slices of a strip, and configurations that repeat with the strip's periods along the axes after the first. A look gives each cell a
+-- symbol, or none.
 use Rattle.std.specs.Prelude.{◌≡◌, ℕ, ◌*◌, ◌<◌, ◌≤◌, ◌&&◌, Bool, ℤ, pos, ◌+ℤ◌, int_le, int_lt, nat_lt, is_some, List}
 use Rattle.dd_lattice.specs.declared.position.Cell.{Cell}
 use Rattle.dd_pattern.specs.{Reading.Look, Periods.periods_volume, Tile.Tile, Tile.IsTile, Weight.total_weight}

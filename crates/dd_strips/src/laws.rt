@@ -13,12 +13,11 @@ ghost use Rattle.dd_strips.specs.Claims.{StripLeast, StripEmpty, spread_of};
 use dd_transfer::slices_are_walks;
 
 /// Does nothing. Its contract says what a closed walk and potentials show:
-/// - The walk's mean is its weight divided by its length. Divided by the number of positions in a slice, this mean is the
-///   least density of all configurations that live on the strip.
-/// - In an admissible filling with `j` slices more than a state has, the last `j` slices weigh at least `j` times the walk's
-///   mean, less the spread of the potentials divided by the denominator of the mean in lowest terms. The spread is the
-///   greatest potential less the least. A filling is admissible if the rule is true at each cell that lies in it together with
-///   all cells that the rule reads there.
+/// - The walk's mean is its weight divided by its length. Divided by the number of positions in a slice, this mean is the least
+///   density of all configurations that live on the strip. A density is a weight per position.
+/// - Let `m / l` be the mean in lowest terms, and let the spread be the greatest potential less the least. In an admissible
+///   filling with `j` slices more than a state has, the last `j` slices weigh at least `(m * j - spread) / l`. A filling is
+///   admissible if the rule is true at each cell that lies in it together with all cells that the rule reads there.
 pub fn strip_least()
     ensures { (r : LocalRule) (periods ws : List ℕ) (p q : ℕ) (walk : List ℕ) (ps : List ℤ) → IsRule r → IsStrip r periods →
         (c : IsDensityCertificate r (strip_for r periods) ws p q walk ps) → StripLeast r (strip_for r periods) ws p q c.l c.m (spread_of ps) }

@@ -109,7 +109,7 @@ stopped es c k r found within grown = record {
   closed = grown.closed;
 }
 
--- if a neighbour of the frontier is out of range, so is some cell of the ball
+-- for k below r: if a neighbour of the frontier after k rounds is out of range, so is some cell of the ball of radius r
 pub left_range : (es : List Edge) (c : Cell) (k r : ℕ) (found frontier : List Cell) → k < r → IsGrown es c k found frontier → are_in_range (flat_map (neighbours es) frontier) ≡ false →
     CellsLeaveRange (IsInBall es c r)
 left_range es c k r found frontier within grown far =
@@ -145,7 +145,7 @@ pub fault_from : (S : CellSet) (fault : LatticeFault) → (fault ≡ Range → C
 fault_from S Range h = h refl
 fault_from S Memory h = tt
 
--- adding one more cell that was not found before
+-- `AddsCells` still holds after the next cell of `cells` is inserted into `now` and appended to `fresh`
 pub adds_new : (before cells now fresh : List Cell) (i : ℕ) (x : Cell) → i < length cells → x ≡ get_or cells i x → AddsCells before (take i cells) now fresh →
     AddsCells before (take (i + 1) cells) (insert_key cell_cmp now x) (fresh ++ x ∷ [])
 adds_new before cells now fresh i x below is adds = rw (take_more cells i x below, ← is) (record {
@@ -177,7 +177,7 @@ adds_new before cells now fresh i x below is adds = rw (take_more cells i x belo
           | inr last ↦ subst (Contains (insert_key cell_cmp now x)) (sym (only_one x d last)) (has-insert_key cell_cmp cells_equal now x)
         ]
 
--- adding one more cell that was found before
+-- `AddsCells` still holds, with the same `now` and `fresh`, if the next cell of `cells` is in `now` already
 pub adds_known : (before cells now fresh : List Cell) (i : ℕ) (x : Cell) → i < length cells → x ≡ get_or cells i x → AddsCells before (take i cells) now fresh →
     Contains now x → AddsCells before (take (i + 1) cells) now fresh
 adds_known before cells now fresh i x below is adds there = rw (take_more cells i x below, ← is) (record {

@@ -19,7 +19,7 @@ by_cases : {P : Type 0} (b : Bool) → (b ≡ true → P) → (b ≡ false → P
 by_cases true if_true if_false = if_true refl
 by_cases false if_true if_false = if_false refl
 
--- adding one more edge, where no edge before it has the same label and first node
+-- `AreSingle` still holds after one more edge is added, if no edge before it has the same label and first node
 pub single_more : (es : List Edge) (i : ℕ) (e : Edge) → i < length es → e ≡ get_or es i e → AreSingle (take i es) → list_any (starts_alike e) (take i es) ≡ false → AreSingle (take (i + 1) es)
 single_more es i e within is before new =
     rw (take_more es i e within, ← is)

@@ -78,7 +78,7 @@ all_are_sets n m some = record {
     any_copy zero b h e = absurd (omega arith)
     any_copy (suc k) b h e = rw e refl
 
--- the row of a node that allows the listed symbols
+-- item t of the row of the listed symbols says whether symbol t is listed
 pub get_or-row_of : (m : ℕ) (symbols : List ℕ) (t : ℕ) (d : Bool) → t < m → get_or (symbol_row m symbols) t d ≡ is_listed symbols t
 get_or-row_of m symbols t d h = get_or-map-range_with_len (is_listed symbols) 0 m t t d h (omega arith)
 

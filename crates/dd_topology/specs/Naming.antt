@@ -8,7 +8,7 @@ use Rattle.dd_topology.specs.declared.names.NameFault.TheVariants.{Twice, Memory
 abbrev pub AreDistinct : List (List ℕ) → Type 0
 AreDistinct names = AllPairs (λ a b. a ≢ b) names
 
--- the number of a name: how many names come before it
+-- the number of a name: how many names come before it; `None` if the list doesn't have the name
 abbrev pub number_of : List (List ℕ) → List ℕ → Option ℕ
 number_of names name = position (bytes_eq name) names
 

@@ -76,9 +76,9 @@ fn moves_of(alloc: Global, edges: &[Edge]) -> Result<IndexSet<Move>, TopologyFau
 }
 
 impl Topology {
-    /// The topology of dimension `dim` with `nodes` nodes at each position, and with these labels and edges. The label and
-    /// the nodes of each edge must exist. Each edge must lead at most 4 along each of the first `dim` axes, and not at all
-    /// along the others.
+    /// The topology of dimension `dim` with `nodes` nodes at each position, and with these labels and edges. The dimension
+    /// must be 1, 2 or 3, and there must be at least one node. The label and the nodes of each edge must exist. Each edge
+    /// must lead at most 4 along each of the first `dim` axes, and not at all along the others.
     ///
     /// # Errors
     /// `Twice` if two edges have the same label and the same first node: it holds the label of the first edge that agrees

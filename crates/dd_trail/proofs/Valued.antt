@@ -10,7 +10,7 @@ use Rattle.dd_derivation.specs.{Derivations.same_literal, Derivations.is_among, 
 use Rattle.dd_trail.specs.{declared.trail.Entry.Entry, Trails.falses, Trails.IsFull, keeping.Values.IsNewTo}
 use Rattle.dd_trail.specs.lemmas.Trails.{has_variable-in, in-has_variable, absent}
 
--- this value of a variable makes the variable's literal of this sign false
+-- a variable with this value makes its literal of this sign false; without a value (None), no literal is false
 abbrev pub value_denies : Bool → Option Bool → Bool
 value_denies positive None = false
 value_denies positive (Some value) = not (beq value positive)
@@ -28,7 +28,7 @@ abbrev pub count_valued : List (Option Bool) → ℕ
 count_valued [] = 0
 count_valued (v ∷ values) = one_if_some v + count_valued values
 
--- exactly the trail's literals are true under the values, and their variables are distinct
+-- exactly the trail's literals are true under the values, and their variables are distinct and in range
 pub record IsValued (trail : List Entry) (values : List (Option Bool)) : Type 0 where
   pub news : (k : ℕ) (d : Entry) → k < length trail → IsNewTo (length values) (take k trail) (get_or trail k d)
   pub values_ok : (l : Literal) → IsLiteralInRange (length values) l → is_denied values l ≡ is_among (falses trail) l
@@ -58,7 +58,7 @@ count-set [] i o h = absurd (omega arith)
 count-set (x ∷ values) zero o h = omega arith
 count-set (x ∷ values) (suc i) o h = omega (arith, count-set values i o (omega arith))
 
--- a literal of an entry's variable is false exactly when it is the negation of the entry's literal
+-- if a variable has the value v, its literal of sign p is false exactly when p is the opposite of v
 same_denied : (v p : Bool) → not (beq v p) ≡ beq p (not v)
 same_denied true true = refl
 same_denied true false = refl

@@ -1,8 +1,10 @@
-//! The order in which variables are decided. Those that took part in the latest conflicts come first (Moskewicz, Madigan, Zhao,
-//! Zhang and Malik 2001, Eén and Sörensson 2003). Each variable gets the value that it had last (Pipatsrisawat and Darwiche
-//! 2007). The variables stand in a binary heap. A variable that is taken from the heap is decided only if the trail says that it
-//! has no value. So no contract depends on the order: a bad one only costs time. No invariant says that the places kept here are
-//! within their lists. So the code tests these places. The tests never fail.
+//! The order in which variables are decided, the most active first. A variable's activity is a number. It rises when the
+//! variable takes part in a conflict, that is, when the conflict or a clause resolved with it contains the variable. Later
+//! conflicts count for more (Moskewicz, Madigan, Zhao, Zhang and Malik 2001, Eén and Sörensson 2003). A variable that is
+//! decided gets the value that it had last (Pipatsrisawat and Darwiche 2007). The variables stand in a binary heap. A variable
+//! that is taken from the heap is decided only if the trail says that it has no value. So no contract depends on the order: a
+//! bad one only costs time. No invariant says that the places kept here are within their lists. So the code tests these places.
+//! The tests never fail.
 ghost use Rattle.std.specs.Prelude.{◌≡◌, ◌<◌, ◌^◌, MatchOption, ⊤};
 ghost use Rattle.dd_trail.specs.Trails.{IsFree, IsFull};
 
@@ -35,11 +37,12 @@ pub enum Style {
     Broad,
     /// The latest conflicts count most, as each adds clearly more than the one before. In a conflict, a variable becomes more
     /// active only once, however many of the resolved clauses contain it, as in MiniSat (Eén and Sörensson 2003). This style is
-    /// better on large tori, where each cell is as good as any other: the search stays with the cells that it is working on.
+    /// better on large tori, where each cell is as good as any other: the search stays with the cells that it is working on. It
+    /// is better for comparisons of automata too.
     Focused,
 }
 
-/// How active a variable is, its place in the heap, and the value that it had last.
+/// How active a variable is, its place in `heap`, and the value that it had last.
 #[derive(Clone, Copy)]
 struct Rank {
     activity: u64,
@@ -63,7 +66,7 @@ pub struct Order {
 }
 
 impl Order {
-    /// The order at the start: all variables wait to be decided, each with the value false and activity 0.
+    /// The order at the start: all variables wait to be decided, each with activity 0, and false as the value that it had last.
     pub fn new(alloc: Global, variables: usize, style: Style) -> Result<Order, AllocError> {
         let idle = Rank {
             activity: 0,
@@ -116,7 +119,7 @@ impl Order {
         variable < self.ranks.len() && self.ranks[variable].value
     }
 
-    /// Puts a variable at a place in the heap.
+    /// Puts a variable at a place in `heap`.
     fn put(&mut self, variable: usize, place: usize)
         ensures { self.new.waiting ≡ self.old.waiting }
     {
@@ -197,7 +200,8 @@ impl Order {
         Some(first)
     }
 
-    /// A literal of the first variable in the order that has no value. `None` if each variable has one.
+    /// Takes variables out of the heap, until one has no value. Returns the literal that this variable's last value makes true.
+    /// `None` if each variable has a value.
     pub fn choose(&mut self, trail: &Trail) -> Option<Literal>
         requires { trail.now.variables < 2 ^ 32 }
         ensures { MatchOption result (IsFull trail.now.variables trail.now.entries) (λ l. IsFree trail.now.variables trail.now.entries l.variable) }

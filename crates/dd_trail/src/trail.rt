@@ -1,8 +1,9 @@
 //! The literals that are true, in the order in which they became true. A list says of each literal whether it is false, so this
 //! can be looked up in constant time.
 //!
-//! A variable has a reason, a level and a place (see `Entry` and `Spot`) only while it has a value. No contract depends on
-//! them, and no invariant says that their indices are within the lists. So the code tests these indices. For variables that
+//! A variable has a reason, a level and a place (see `Entry` and `Spot`) only while it has a value. What `reason`, `level`,
+//! `is_fixed` and `is_latest` return for any other variable means nothing. No contract depends on what they return. No
+//! invariant says that each variable has a spot, or that its place is on the trail. So the code tests both. For variables that
 //! have a value, the tests never fail.
 ghost use Rattle.std.specs.Prelude.{◌≡◌, ℕ, ◌+◌, ◌<◌, ◌≤◌, ◌^◌, ◌++◌, ◌∷◌, [], true, false, length, take, slice_set, ◌-◌, IfOk, OnOk, OnErr, MatchOption, IsTrue, ◌↔◌};
 ghost use Rattle.dd_clause.specs.Clauses.{IsLiteralInRange};
@@ -57,7 +58,8 @@ impl Model for Trail {
     ghost invariant = { λ t. IsDenied t.variables t.entries.items t.denied.items };
 }
 
-/// The code of a literal: its index in a list of all literals.
+/// The code of a literal: its index in a list of all literals. It is twice the number of the variable, plus 1 if the literal is
+/// positive.
 pub fn code_of(literal: Literal) -> usize
     ensures { result ≡ code literal }
 {
@@ -113,7 +115,8 @@ impl Trail {
         self.entries.as_slice()
     }
 
-    /// Makes a literal true. Its variable must not have a value yet.
+    /// Adds an entry at the end, which makes its literal true. The literal's variable must be in range, and must not have a
+    /// value yet. If memory runs out, the entries stay the same.
     pub fn assign(&mut self, entry: Entry) -> Result<(), AllocError>
         requires in_range { IsLiteralInRange self.old.variables entry.literal }
         requires fresh { has_variable entry.literal.variable (falses self.old.entries) ≡ false }
@@ -180,7 +183,7 @@ impl Trail {
         None
     }
 
-    /// The values of the variables. A variable without a value is false.
+    /// The values of the variables. A variable without a value counts as false.
     pub fn assignment(&self, alloc: Global) -> Result<Assignment, AllocError>
         ensures length { IfOk result (λ values. length values ≡ self.now.variables) }
         ensures values { IfOk result (λ values. (v : ℕ) → 1 ≤ v → v ≤ self.now.variables → true_variables values v ≡ is_among (falses self.now.entries) (record { variable = v; positive = false })) }

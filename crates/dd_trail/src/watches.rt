@@ -1,11 +1,12 @@
-//! Two watched literals (Moskewicz, Madigan, Zhao, Zhang and Malik 2001). Each clause watches two of its literals, and need not
-//! be looked at while neither of them is false. So when a literal becomes false, only the clauses that watch it are looked at.
-//! When the search goes back, nothing has to be undone. The watches only suggest clauses, and each suggested clause is tested
-//! exactly. So no contract depends on the watches: a clause that they miss only costs time. No invariant says that the places
-//! kept here are within their lists. So the code tests these places. The tests never fail.
+//! Two watched literals (Moskewicz, Madigan, Zhao, Zhang and Malik 2001). Each clause with at least two literals watches two of
+//! them, and need not be looked at while neither of these two is false. So when a literal becomes false, only the clauses that
+//! watch it are looked at. When the search goes back, no watch has to be undone. The watches only suggest clauses, and each
+//! suggested clause is tested exactly. So no contract depends on the watches: a clause that they miss only costs time. No
+//! invariant says that the places kept here are within their lists. So the code tests these places. The tests never fail.
 //!
-//! Each literal has a list of its watchers, which are the clauses that watch it. To pass a watcher is to look at its clause. The
-//! clause then stays in the list, or moves to the list of another literal.
+//! Each literal has a list of watchers. A watcher names a clause that watches the literal, and another literal of this clause.
+//! To pass a watcher is to look at its clause, unless this other literal is true. The watcher then stays in the list, or moves
+//! to the list of another literal.
 ghost use Rattle.std.specs.Prelude.{◌≡◌, ◌<◌, ◌^◌, length, IfOk, MatchOption, ⊤};
 ghost use Rattle.dd_trail.specs.Trails.{falses, IsFull};
 ghost use Rattle.dd_trail.specs.Propagation.{Says, AreOpenBetween};
@@ -17,7 +18,7 @@ use dd_clause::Literal;
 use std::alloc::{AllocError, Global};
 use std::mem;
 
-/// A literal's code, in four bytes. It always fits, as there are at most 2^24 variables.
+/// A literal's code (see `code_of`), in four bytes. It always fits, as there are at most 2^24 variables.
 #[derive(Clone, Copy, PartialEq, Eq)]
 struct Code {
     index: u32,
@@ -148,9 +149,10 @@ fn rewatch(denied: &[bool], literals: &mut [Code], clause: u32, became_false: Co
     }
 }
 
-/// Passes the watchers of a literal that became false, from the one at `from` on. They are in the list `passed`. A clause that
-/// now watches another literal moves to that literal's list, and the last watcher in `passed` takes its place. Stops at a clause
-/// that may be falsified or force a literal, and returns the place of its watcher. Returns `None` if there is no such clause.
+/// Passes the watchers of a literal that became false, from the one at `from` on. They are in the list `passed`. If a clause
+/// now watches another literal instead, its watcher moves to that literal's list, and the last watcher in `passed` takes its
+/// place. Stops at a clause that may be falsified or force a literal, and returns the place of its watcher. Returns `None` if
+/// there is no such clause.
 fn pass_from(
     denied: &[bool],
     literals: &mut [Code],
@@ -210,7 +212,7 @@ impl Watches {
         })
     }
 
-    /// Adds the next clause. It watches its first two literals.
+    /// Adds the clause with the next number, from 1 on. It watches its first two literals, if it has at least two.
     pub fn add(&mut self, literals: &[Literal]) -> Result<(), AllocError> {
         let start = self.literals.len();
         self.count = self.count.saturating_add(1);
@@ -379,9 +381,9 @@ impl Watches {
         Ok(Scan::Nothing)
     }
 
-    /// Looks for a clause that is falsified or forces a literal. Each new clause is looked at once, as it may have only one
-    /// literal, in which case it watches none. If each variable has a value, all clauses are looked at once more. The contract
-    /// depends on this.
+    /// Looks for a clause that is falsified or forces a literal. Each new clause is looked at once, as a clause with fewer than
+    /// two literals watches none. If each variable has a value, all clauses are looked at once more. The contract depends on
+    /// this.
     pub fn find(&mut self, database: &Database, trail: &Trail) -> Result<Scan, AllocError>
         requires { trail.now.variables < 2 ^ 32 }
         ensures { IfOk result (Says database.now (falses trail.now.entries) (IsFull trail.now.variables trail.now.entries → AreOpenBetween database.now (falses trail.now.entries) 0 (length database.now))) }

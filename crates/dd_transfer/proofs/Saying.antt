@@ -21,7 +21,7 @@ symbol_cond : (ss : List ℕ) (b : Bool) (o : Option ℕ) → symbol_with ss (co
 symbol_cond ss true o = refl
 symbol_cond ss false o = refl
 
--- reading a cell c by its number relative to v gives what the look of the window has at c moved by v
+-- a cell c is given relative to the position v: the symbol at c's number is what the window's look gives to the cell c moved by v
 near_reads : (s : Strip) (v : Place) (ss : List ℕ) (c : Cell) → read_by (numbers_near (standpoint s v)) ss c ≡ window_look s ss (shifted v c)
 near_reads s v ss c = symbol_cond ss (int_le (pos 0) (c.position.x +ℤ v.x) && nat_lt c.node s.nodes) (Some (window_index s (shifted v c)))
 

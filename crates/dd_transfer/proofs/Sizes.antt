@@ -69,7 +69,7 @@ cells_few s sized = most s.nodes s.y s.z sized.nodes_most sized.y_most sized.z_m
         let two : a * (b * c) ≤ 4 * (b * c) = mul-le-mul_right (b * c) p in
         omega (arith, one, two)
 
--- a walk that passes each state at most once weighs at most 2^25
+-- the number of states times the weight of a slice is at most 2^25
 light_one : (b c w n x : ℕ) → 1 ≤ b → 1 ≤ w → c ≤ 16384 → n ≡ (b ^ c) ^ w → n ≤ 4096 → (b ^ c) ^ (w + 1) ≤ 131072 → x ≤ 1000 * c → n * x ≤ 2 ^ 25
 light_one b c w n x some h most is few small weight = elim (cases_lt 1 b) [
   | inl two ↦

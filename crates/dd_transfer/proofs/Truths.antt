@@ -1,4 +1,5 @@
--- A rule in a window: if it is true at the cells of the slice at x, it is true at every cell with this x.
+-- A rule in a window. The cells of the slice at x are those whose y and z are at least 0 and below the strip's periods. If the rule is true at these
+-- cells, it is true at every cell with this x, because the window's symbols repeat with the periods.
 use Rattle.std.proofs.Common.{◌≡◌, ℕ, ◌+◌, ◌*◌, ◌<◌, true, ℤ, pos, ◌+ℤ◌, unsigned_abs, None, refl, ap, sym, ◌∙◌, subst, arith}
 use Rattle.std.proofs.lemmas.Bool.{cond_both}
 use Rattle.std.specs.Prelude.{nat_lt, int_le, slice_get, IfSome, cond, ◌&&◌}

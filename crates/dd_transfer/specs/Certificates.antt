@@ -17,7 +17,7 @@ IsWalk r s u (w ∷ ws) v = ((t : ℕ) × IsEdge r s u t w) × IsWalk r s w ws v
 abbrev pub last_slice : LocalRule → Strip → ℕ → ℕ
 last_slice r s w = w % slices r (positions s)
 
--- the weight of a walk through these states: the total weight of the edges that lead to them
+-- the weight of a walk through these states: the total weight of the edges that lead to them; an edge weighs what its slice weighs
 abbrev pub walk_weight : LocalRule → Strip → List ℕ → List ℕ → ℕ
 walk_weight r s weights [] = 0
 walk_weight r s weights (w ∷ ws) = slice_weight r s weights (last_slice r s w) + walk_weight r s weights ws

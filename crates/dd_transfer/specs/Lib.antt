@@ -6,7 +6,7 @@ pub mod Windows
 pub mod Transfers
 -- what certifies the least density of a strip
 pub mod Certificates
--- the slices of a look, which gives each cell a symbol or none, and the states and windows that these slices make
+-- the slices of a look, and the states and windows that they make; a look gives each cell a symbol, or none
 pub mod Slices
 -- how the slices of a look relate to the transfer graph
 pub mod Laws

@@ -35,8 +35,8 @@ fn window_place(strip: &Strip, x: i32, y: i32, z: i32, node: u32) -> u64
     before + slice_place(strip, y, z, node) as u64
 }
 
-/// The place of a cell, given by its coordinates and its node, among the symbols of a window. `None` if the cell is to
-/// the left of the window, or there is no such node.
+/// The place of a cell, given by its coordinates and its node, among the symbols of a window. For a cell to the right of the
+/// window, it is past the last symbol. `None` if the cell is to the left of the window, or there is no such node.
 pub(crate) fn number(strip: &Strip, x: i32, y: i32, z: i32, node: u32) -> Option<usize>
     requires { IsSized strip.now }
     ensures { result ≡ window_numbers strip.now (cell (place x y z) node) }

@@ -1,6 +1,13 @@
 //! Transfer graphs of rules over strips: the transfer matrices of Lind and Marcus (1995), as graphs. A strip has periods
-//! along y and z, and no end along x. A slice of it lies at one value of x, and gives a symbol to each cell there. The vertices
-//! of the graph are states. A state consists of consecutive slices, and has an edge for each slice that may follow it.
+//! along y and z, and no end along x. A slice of it lies at one value of x, and gives a symbol to each cell there. Let n be the
+//! number of slices from the first to the last that the rule reads when it is evaluated at the cells of one position. The slice
+//! of this position counts as read.
+//!
+//! The vertices of the graph are states. A state consists of n - 1 consecutive slices, or of one if n is 1. A window is a state
+//! followed by one more slice. Its tested slice is the first one at whose cells the rule reads nothing to the left of the
+//! window. The rule keeps a window if each symbol is one that its node allows, and the rule is true at each cell of the tested
+//! slice. The windows that it keeps are the edges. Such an edge leads from the window without its last slice to the window
+//! without its first slice.
 #![tactic(auto)]
 
 mod building;

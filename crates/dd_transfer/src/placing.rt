@@ -44,7 +44,8 @@ impl Near {
     }
 }
 
-/// The number of the cell with the node `node` at the sum of two positions. The sum may lie outside the range of positions.
+/// The number of the cell with the node `node` at the sum of two positions. The sum need not be a `Position`: its coordinates
+/// may exceed 2^20 in absolute value.
 fn number_at(strip: Strip, position: &Position, by: &Position, node: u32) -> Option<usize>
     requires { IsSized strip }
     ensures { result ≡ window_numbers strip (cell (moved position.now by.now) node) }

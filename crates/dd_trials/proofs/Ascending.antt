@@ -1,4 +1,4 @@
--- Cells that are wired one by one, in cell order.
+-- A wiring lists cells, each with its signals. If it has the first i cells of a list, and the next cell is added, it has the first i + 1.
 use Rattle.std.proofs.Common.{◌≡◌, ℕ, ◌+◌, ◌<◌, List, [], ◌∷◌, ◌++◌, take, length, get_or, ap, sym, ◌∙◌}
 use Rattle.std.proofs.lemmas.List.{take_more}
 use Rattle.dd_lattice.specs.declared.position.Cell.{Cell}

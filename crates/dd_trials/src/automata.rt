@@ -39,7 +39,8 @@ fn line(alloc: Global, first: i32, symbols: &[u32]) -> Result<Filling, Fail> {
     Ok(Filling::new(cells, copies))
 }
 
-/// The value at the origin of the goal's first automaton. The goal must compare two automata.
+/// The value that the goal's first automaton gives to the first node of the origin; `None` if the filling lacks a cell that it
+/// reads. The goal must compare two automata.
 fn first_of(
     alloc: Global,
     premise: &Rule,
@@ -57,7 +58,7 @@ fn first_of(
     }
 }
 
-/// The value at the origin of the first automaton in the goal of the script's first box question.
+/// The same for the goal of the script's first box question.
 fn first_value(alloc: Global, script: &Script, filling: &Filling) -> Result<Option<u32>, Fail> {
     for query in script.queries() {
         let pairs = script.pairs(alloc, query)?;
@@ -73,7 +74,7 @@ fn first_value(alloc: Global, script: &Script, filling: &Filling) -> Result<Opti
 const SCRIPT: &str =
     "%dim 1 %rule full o@o %auto r when o.lt!=o.rt give 1 else 0 %compose rr r r %conf c [4] 0 1 0 0 %same rr r full";
 
-// The position of the first cell, the symbols from there on, and the value at the origin of `r` applied twice.
+// The position of the first cell, the symbols from there on, and the value that `r`, applied twice, gives to the origin.
 const VALUES: [(i32, &[u32], Option<u32>); 3] = [
     (-2, &[0, 0, 0, 0, 1], Some(1)),
     (-2, &[1, 0, 0, 0, 1], Some(0)),

@@ -23,7 +23,7 @@ fn numbers(alloc: Global, clause: &Clause) -> Result<Vec<i64>, AllocError> {
     Ok(numbers)
 }
 
-/// The clauses, on the box of one position, of the question whether any configuration obeys the script's first rule.
+/// The clauses that ask, on the box of radius 0, whether any configuration obeys the script's first rule.
 fn emptiness_of(alloc: Global, script: &Script) -> Result<Cnf, Fail> {
     let rule = script.rules().first().ok_or("a rule")?;
     clauses_of(alloc, rule, &Goal::Always, 0)

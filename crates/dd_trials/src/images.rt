@@ -154,7 +154,8 @@ const DEEP: &str = "%rule y !!!!!!!!!!!!!!!!!!!!!!!!!!!!!!!!!!!!!!!!!!!!!!!!!!!!
 const LESS_DEEP: &str =
     "%rule y !!!!!!!!!!!!!!!!!!!!!!!!!!!!!!!!!!!!!!!!!!!!!!!!!!!!!!!!!!!!!!!o=1";
 
-/// A setting, a rule, and whether the rule becomes too deep once the condition that each symbol is allowed is added to it.
+/// A setting, a rule, and whether the rule becomes too deep for a question about images. If some node doesn't allow every
+/// symbol, such a question makes the rule deeper: it adds the condition that the image has only allowed symbols.
 const DEPTHS: &[(&str, &str, bool)] = &[
     ("%topology hex ", DEEP, false),
     ("%topology hex %only 1 0 ", DEEP, true),

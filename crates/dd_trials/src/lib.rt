@@ -1,10 +1,14 @@
 //! Tests that need several crates at once. A script is parsed. Then the truth of its rules, the values of its automata, and the
 //! circuits and clauses made from them are compared with each other or with results worked out by hand.
 //!
-//! A filling gives a symbol to each cell of a list. A rule reads the cells whose symbols its formula looks at. A box question has
-//! a premise, which is a rule, and a goal: that another rule is false at some node of the origin, that two automata differ at
-//! some node of the origin, or no further condition (`Always`). A filling of a box is admissible if the premise is true at each
+//! A filling gives a symbol to each cell of a list. A rule reads the cells whose symbols its formula looks at. A box question
+//! has a premise, which is a rule, and a goal. It asks whether no configuration that obeys the premise has the goal. There are
+//! three kinds of goal: that another rule is false at some node of the origin, that two automata differ at some node of the
+//! origin, and `Always`, which holds in every configuration. A filling of a box is admissible if the premise is true at each
 //! cell for which the box holds all that the premise reads there.
+//!
+//! A circuit has a variable for each input and each gate. A signal is a variable or its negation. The inputs of a cell are
+//! signals that say which symbol the cell has, one for each symbol.
 #![tactic(auto)]
 
 #[cfg(test)]

@@ -1,4 +1,6 @@
-// Minimal forbidden patterns of small rules.
+// The lists of minimal forbidden patterns, for small rules. A pattern gives symbols to some of the cells that a rule reads, and
+// leaves the others out. It is forbidden if every filling with allowed symbols that agrees with it breaks the rule, and minimal
+// if no further cell can be left out. A list need not have all such patterns.
 use crate::scripts::script_of;
 use dd_minimal::minimal;
 use dd_script::Script;
@@ -25,7 +27,7 @@ const SIXTEEN: &str = "%dim 1 %rule x (Ep[o3] Eq[p3] Er[q1] r=1) | o.rt.rt.rt.rt
 
 const TEN: &str = "%dim 1 %alphabet 0 1 2 %rule x (Ep[o3] Eq[p1] q!=0) | o.rt.rt.rt.rt.rt!=0";
 
-/// A rule, a node, and the rule's minimal forbidden patterns at this node.
+/// A rule, a node, and the patterns that are listed for the rule at this node.
 const MINIMAL: &[(&str, u32, &[Pattern])] = &[
     (
         HARD,
@@ -58,7 +60,7 @@ const MINIMAL: &[(&str, u32, &[Pattern])] = &[
         0,
         &[&[Some(0), Some(0)], &[Some(0), Some(2)]],
     ),
-    // If the symbol 1 isn't allowed, every symbol after a 0 breaks the rule.
+    // If the symbol 1 isn't allowed, every allowed symbol after a 0 breaks the rule.
     (
         "%dim 1 %alphabet 0 1 2 %only 0 0 2 %rule x o=0 -> o.rt=1",
         0,
@@ -109,7 +111,7 @@ const MINIMAL: &[(&str, u32, &[Pattern])] = &[
     (TEN, 0, &[&[Some(0); 10]]),
 ];
 
-/// Asserts the minimal patterns of the script's first rule at a node.
+/// Asserts the list of patterns for the script's first rule at a node.
 fn assert_minimal(
     rt: &impl Abort,
     alloc: Global,

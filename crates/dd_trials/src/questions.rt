@@ -29,7 +29,7 @@ fn goal_clauses(alloc: Global, premise: &Rule, goal: &Goal) -> Result<u32, Alloc
     }
 }
 
-/// Does nothing. Its contract states the law of one box for the box of this radius.
+/// Does nothing. Its contract states the law of one box (see `one_box`) for the box of this radius.
 fn one_radius(premise: &Rule, goal: &Goal, _radius: u32)
     ensures { OneBox premise.now (goal_of premise.now goal.now) _radius }
 {

@@ -243,8 +243,8 @@ fn formulas_over_three_symbols(rt: HostRuntime) -> Result<(), Fail> {
     assert_times(&rt, rt.alloc(), THREE_SYMBOLS, FORMULAS)
 }
 
-/// Asserts that the circuit has one gate, the conjunction of the inputs 1 and 2, with this signal. Also asserts the circuit's
-/// values if only the first input is true.
+/// Asserts that the circuit has one gate, that this gate is the conjunction of the inputs 1 and 2, and that the signal is the
+/// gate's variable. Also asserts the circuit's values if only the first input is true.
 fn assert_one_gate(
     rt: &impl Abort,
     alloc: Global,

@@ -1,4 +1,5 @@
-// Whether two automata agree on a rule's configurations: the answers of runs, and whether a check accepts them.
+// Whether two automata agree on a rule's configurations: the answers of runs, and whether a check accepts these and other
+// answers.
 use crate::outputs::{assert_answers, assert_checks, assert_first_lines, assert_lines};
 use std::alloc::{AllocError, Global};
 use std::test::Fail;
@@ -68,7 +69,7 @@ const DIFFERENT: &str =
 // Lines of answers to this script, and whether a check accepts them.
 const CHECKED: [(&str, bool); 4] = [
     ("query 1 NO 1 1\nconf 1\n", true),
-    // Both automata give the origin the value 0.
+    // In the first two, both automata give the origin the value 0. The third names a side, which only an equality has.
     ("query 1 NO 1 1\nconf 0\n", false),
     ("query 1 NO 2 1\nconf 0 1\n", false),
     ("query 1 NO left 1 1\nconf 1\n", false),
@@ -122,7 +123,8 @@ fn commuting(alloc: Global, first: u32) -> Result<String, AllocError> {
     Ok(text)
 }
 
-// The answers if all of them commute with the shift. The radius is the least one that suffices for these compositions.
+// The answers if all sixteen automata commute with the shift. The radius 2 is the least whose box holds all that the
+// compositions read.
 fn sixteen_yes(alloc: Global) -> Result<String, AllocError> {
     let mut lines = String::new(alloc);
     for number in 1..17u32 {

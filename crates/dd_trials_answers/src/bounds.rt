@@ -1,4 +1,8 @@
-// Discharging: known values, and whether a check accepts the answers of runs and other answers.
+// Bounds by discharging: known values, and whether a check accepts the answers of runs and other answers. A query names a rule,
+// a radius, a margin and vectors. At first each position holds its weight. Then it gives an amount along each vector. The
+// amount depends on the symbols of the box of this radius around the giver. The region consists of the boxes of this radius
+// around the origin and around the positions that give to it, all grown by the margin. The bound is the greatest number c for
+// which some amounts leave at least c at the origin, in each admissible filling of the region.
 use crate::outputs::{assert_answers, assert_checks, assert_lines};
 use std::test::Fail;
 
@@ -82,10 +86,10 @@ const DISCHARGES: [(&str, &str); 16] = [
     ),
 ];
 
-// Whole answers, with their amounts and duals. docs/wrong-bodies.md disproves wrong laws about boxes with the last two. By the
-// first rule a 0 has a 1 to its right, and by the second a 1 three steps away. By the last rule the cell two steps to the right
-// of any cell is a 1. With the margin the region also has the cell two steps to the left of the origin, and there the rule
-// forces the origin to be a 1.
+// Whole answers, with their amounts and duals. docs/wrong-bodies.md uses the last two to disprove wrong laws about boxes. By
+// the first rule a 0 has a 1 to its right, and by the second a 1 three steps away. By the last rule the cell two steps to the
+// right of any cell is a 1. With the margin the region also has the cell two steps to the left of the origin, and there the
+// rule forces the origin to be a 1.
 const WHOLE_BOUNDS: [(&str, &str); 3] = [
     (
         "%dim 1 %rule cover o=1 | o.rt=1 %discharge cover 0 0 [1]",

@@ -1,10 +1,8 @@
-// Answers to box questions, most of them compared by their first lines. A box question has a premise, which is a rule, and a
-// goal, such as that another rule is broken. It asks whether no configuration that obeys the premise has the goal at the
-// origin. YES means that none has, and NO that one has.
+// Answers to box questions, most of them compared by their first lines.
 use crate::outputs::{assert_answers, assert_lines};
 use std::test::Fail;
 
-// Containment and equality of rules, with the least radius or the first periods that decide the question.
+// Containment, equality and emptiness of rules, with the least radius or the first periods that decide the question.
 const CONTAINED_OR_EQUAL: [(&str, &str); 5] = [
     (
         "%rule hard o=1 -> (o.rt=0 & o.up=0) %rule row o=1 -> o.rt=0 %contains row hard %contains hard row %equal hard row",

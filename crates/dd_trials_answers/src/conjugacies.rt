@@ -1,5 +1,8 @@
-// Whether an automaton maps one rule's configurations into another's, and whether two automata are inverse maps between them: the
-// answers of runs, and whether a check accepts them.
+// Whether an automaton maps one rule's configurations into another's, and whether two automata are inverse maps between the two
+// rules' configurations: the answers of runs, and whether a check accepts these and other answers. `%conjugate f g x y` asks
+// four questions. Does f map x into y? Does g map y into x? Does f followed by g leave each configuration of x as it is? Does g
+// followed by f leave each configuration of y as it is? CONJUGATE gives a radius for each question, and BROKEN the number of a
+// question whose answer is NO.
 use crate::outputs::{assert_answers, assert_checks, assert_lines};
 use std::test::Fail;
 
@@ -79,7 +82,8 @@ const CHECKED: [(&str, bool); 10] = [
     ("query 1 BROKEN 3 1\nconf 1\n", false),
     ("query 1 BROKEN 1 2\nconf 1 0\n", false),
     ("query 1 NO 2\nconf 1 0\n", false),
-    // The automaton does lose information, so no steps refute the clauses of the third question.
+    // The automaton does lose information, so no steps refute the clauses of the third question. The last answer is one to
+    // another kind of query.
     (
         "query 1 CONJUGATE 1 1 0 0\nrefutation 1\nstep 0 1 0 0\nrefutation 1\nstep 0 1 0 0\nrefutation 1\nstep 0 1 0 0\nrefutation 1\nstep 0 1 0 0\n",
         false,

@@ -1,4 +1,7 @@
-// Least densities of strips: known values, and whether a check accepts the answers of runs and other answers.
+// Least densities of strips: known values, and whether a check accepts the answers of runs and other answers. A slice gives a
+// symbol to each cell of the strip that has a given x. The states of the transfer graph are rows of slices, and an edge appends
+// one slice. The evidence for a density is a cycle, and a potential for each state of the graph. The evidence for EMPTY is a
+// rank for each state. `dd_density` says what potentials and ranks are.
 use crate::outputs::{assert_checks, assert_lines};
 use std::test::Fail;
 
@@ -13,13 +16,13 @@ const DENSITIES: [(&str, &str); 15] = [
         "%rule dom Ep[o1] p=1 %density dom [5]",
         "query 1 DENSITY 1/5\n",
     ),
-    // The graph with the most slices to try: 256 states, and 256 slices after each.
+    // Of these graphs, this one has the most slices to try: 256 after each of its 256 states.
     (
         "%rule hard o=1 -> (o.rt=0 & o.up=0) %density hard [8]",
         "query 1 DENSITY 0/1\n",
     ),
-    // A 0 weighs 1. Of the seven cells of a slice, which is a ring, three can be 1. In the next slice the 1s are one step
-    // further round the ring.
+    // A 0 weighs 1. Of the seven cells of a slice, which is a ring, at most three are 1. Every slice has three 1s if they move
+    // one step round the ring from slice to slice.
     (
         "%weights 1 0 %rule hard o=1 -> (o.rt=0 & o.up=0) %density hard [7]",
         "query 1 DENSITY 4/7\n",

@@ -1,6 +1,7 @@
-//! What accepted answers exclude from three configurations. A spike, which is a 1 among 0s, and a checkerboard are given as
-//! functions, and the third is a periodic configuration of the script. An answer excludes a query's goal at a position if the
-//! check accepts it as a YES to this query. Then no configuration that obeys the query's premise everywhere has the goal there.
+//! What accepted answers exclude from three configurations. Two of them are functions: the spike, which is a 1 among 0s, and
+//! the checkerboard. The third is a periodic configuration of the script. An answer excludes a query's goal at a position if it
+//! is a YES and the check accepts it for this query. Then no configuration that obeys the query's premise everywhere has the
+//! goal there.
 ghost use Rattle.dd_checker.specs.Lifted.{IsWhole};
 
 use dd_answer::answer;

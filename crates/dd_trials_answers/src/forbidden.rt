@@ -1,4 +1,6 @@
-// Forbidden patterns: the lists that runs write, and whether a check accepts these and other lists.
+// Forbidden patterns: the lists that runs write, and whether a check accepts these and other lists. A pattern gives symbols to
+// the cells that a rule reads at a node, and is forbidden if these symbols make the rule false. Its line has the node and then
+// the symbols, in cell order.
 use crate::outputs::{assert_answers, assert_checks};
 use std::test::Fail;
 

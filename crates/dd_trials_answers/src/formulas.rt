@@ -1,5 +1,7 @@
-// What formulas mean: configurations throughout which they are true, or the first cells, found by hand, at which they are false.
-// Then the limits on expansions, which are formulas with all quantifiers written out.
+// What formulas mean. The scripts of the first tables ask whether a formula is true at every cell of a configuration. If it
+// isn't, the answer has the first cell at which it is false. These answers are found by hand. The last table is about limits.
+// The expansion of a formula has all quantifiers written out over their cells. Its instances are its parts, and its reach is
+// the greatest distance along an axis at which it reads a cell.
 use dd_trials_runs::run_on;
 use std::alloc::{AllocError, Global};
 use std::test::Fail;
@@ -96,14 +98,15 @@ pub(crate) const CONNECTIVES_AND_QUANTIFIERS: [(&str, &str); 2] = [
     ),
 ];
 
-// The cell 15 moves to the right of `p`. If `p` is two moves from `o`, this is one move further than a rule may read.
+// The cell that is 15 moves to the right of `p`. If `p` is two moves to the right of `o`, this is one move further than a rule
+// may read.
 const FAR: &str = "p.rt.rt.rt.rt.rt.rt.rt.rt.rt.rt.rt.rt.rt.rt.rt";
 
 // Three nested quantifiers. Each inner one ranges over the ball around the cell of the quantifier before it.
 const LARGE: &str = "Ap[o3] Aq[p3] Ar[q3]";
 
-// Scripts in which the words FAR and LARGE stand for these texts, and the last line of the output. This line says why the
-// script is refused, or it is the `end` of an output.
+// Scripts in which the words FAR and LARGE stand for these texts, each with the last line of its output. This line says why the
+// script is refused, or it is `end`.
 const EXPANSIONS: [(&str, &str); 11] = [
     ("%rule a Ap[o1] FAR=0", "end"),
     ("%rule a Ap[o2] FAR=0", "refused 1 size reach"),
@@ -112,7 +115,7 @@ const EXPANSIONS: [(&str, &str); 11] = [
         "%topology king %rule a LARGE r=0",
         "refused 2 size instances",
     ),
-    // A variable that is bound twice is reported before both limits. The limit on instances is reported before the one on reach.
+    // A variable that is bound twice is reported rather than a limit, and the limit on instances rather than the one on reach.
     (
         "%topology king %rule a Ap[o2] LARGE FAR=0",
         "refused 2 twice p",

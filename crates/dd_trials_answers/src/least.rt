@@ -27,7 +27,7 @@ const WEIGHTS: [(&str, &str); 5] = [
     ),
 ];
 
-// A script, and its whole answer: nothing weighs less than 0, so there is no refutation.
+// A script and its whole answer. Nothing weighs less than 0, so there is no refutation.
 const NOTHING: [(&str, &str); 1] = [(
     "%dim 1 %rule z o=0 %least z [2]",
     "query 1 LEAST 0\nconf 0 0\n",
@@ -36,8 +36,8 @@ const NOTHING: [(&str, &str); 1] = [(
 // A script with one query, whose clauses are short.
 const ONES: &str = "%dim 1 %rule ones o=1 %least ones [1]";
 
-// Lines of answers to this script, and whether a check accepts them. The clauses are (1 2) and (-1 -2) for the cell, (2) for the
-// rule, and (3 -2), (-3 2) and (-3) for the weight.
+// Lines of answers to this script, and whether a check accepts them. The clauses that ask for a weight below 1 are, in order,
+// (1 2) and (-1 -2) for the cell, (2) for the rule, and (3 -2), (-3 2) and (-3) for the weight.
 const CHECKED: [(&str, bool); 9] = [
     (
         "query 1 LEAST 1\nconf 1\nrefutation 1\nstep 0 3 4 6 0 0\n",
@@ -63,7 +63,7 @@ const CHECKED: [(&str, bool); 9] = [
         "query 1 LEAST 1\nconf 1\nrefutation 1\nstep 0 3 5 6 0 0\n",
         false,
     ),
-    // Some configuration obeys the rule.
+    // Some configuration obeys the rule. The last two answers are ones to other kinds of query.
     ("query 1 NONE\nrefutation 1\nstep 0 3 4 6 0 0\n", false),
     ("query 1 UNKNOWN limits\n", false),
     ("query 1 YES 0\nrefutation 1\nstep 0 3 4 6 0 0\n", false),

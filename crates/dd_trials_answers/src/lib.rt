@@ -1,6 +1,11 @@
-//! Tests of the answers that runs give to each kind of query, of the answers that a check accepts or rejects, and of what
-//! accepted answers exclude from configurations, periodic or not. These tests use only the public items of the crates that they
-//! test.
+//! Tests of answers. A run reads a script and writes an output, which has an answer to each query. A check reads an output, and
+//! accepts all of its answers or rejects one. It accepts UNKNOWN without evidence if the reason is one for this kind of query.
+//! Most tests ask what runs answer to each kind of query, and which answers a check accepts. Some ask what accepted answers
+//! exclude from configurations, periodic or not, or which scripts and words are refused. These tests use only the public items
+//! of the crates that they test.
+//!
+//! A box question has a premise, which is a rule, and a goal, such as that another rule is broken. It asks whether no
+//! configuration that obeys the premise has the goal at the origin. YES means that none has, and NO that one has.
 #![tactic(auto)]
 
 #[cfg(test)]

@@ -62,14 +62,14 @@ const MEMBERS_ELSEWHERE: [(&str, &str); 4] = [
     ),
 ];
 
-// Words that could be read in two ways, and tokens that could be taken apart.
+// Words that could be read in two ways, and tokens without blanks between them.
 const WORDS_AND_TOKENS: [(&str, &str); 4] = [
     // A word that is a variable in scope is not a symbol.
     (
         "%alphabet o i %conf z [1 1] i %rule a o=o %member z a",
         "query 1 IN\n",
     ),
-    // A word that names a command may also be a name of the script.
+    // A word of the language, such as `rule` or `when`, may also be a name in the script.
     (
         "%alphabet rule conf %conf when [1 1] conf %rule dim o=conf %member when dim",
         "query 1 IN\n",

@@ -1,4 +1,6 @@
-// Minimal forbidden patterns: the lists that runs write, and whether a check accepts these and other lists.
+// Minimal forbidden patterns: the lists that runs write, and whether a check accepts these and other lists. A pattern gives
+// symbols to some of the cells that a rule reads at a node, and has a `*` for each cell that it leaves out. It is forbidden if
+// every filling with allowed symbols that agrees with it breaks the rule, and minimal if no further cell can be left out.
 use crate::outputs::{assert_answers, assert_checks};
 use std::test::Fail;
 

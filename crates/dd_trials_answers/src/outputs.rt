@@ -1,4 +1,5 @@
-// Outputs of runs over scripts, and whether a check accepts them.
+// Outputs of runs over scripts, and whether a check accepts them. A run may have engines. An engine may propose an assignment
+// that satisfies a list of clauses, or a refutation of the list, before diddy itself searches for one.
 use dd_outside::{MemorySink, MemorySource};
 use dd_session::{Status, check_diddy};
 use dd_trials_runs::{Member, NO_ENGINES, OF_PROGRAM, Ran, first_lines, run_over};

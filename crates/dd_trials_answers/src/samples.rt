@@ -24,8 +24,8 @@ const SMALLEST: &str = "%limits 3 3 1000\n\
 
 // Query 1: the chessboard has no two neighbouring 1s. Query 2: `hard` implies `row`, and the box of radius 1 has the cells that
 // the two rules read. Queries 3 and 4: by `row` a 1 may have a 1 above it. Alternating columns of 1s and 0s have the periods 2
-// and 1; with the period 1 along a row, a 1 would be its own neighbour. Query 5: by `dies` a 1 has a 1 to its right, but no
-// second one after that, so there is no 1. To see this, the rule is needed at the 1 and at its right neighbour. At this
+// and 1; with the period 1 along a row, a 1 would be its own neighbour. Query 5: by `dies` each 1 has a 1 to its right, but no
+// three 1s are side by side. So there is no 1. To see this, the rule is needed at a 1 and at its right neighbour. At this
 // neighbour it reads the cell three to the right of the 1, and the box of radius 2 ends before this cell. Queries 6 and 7: a 1
 // dominates five cells, and a strip of period 5 has a code that dominates each cell once.
 const LINES: &str =

@@ -1,5 +1,6 @@
-// How an answer of each kind is written; outputs that are read back; and texts that aren't outputs. For each of these
-// texts, the length of its longest prefix that could begin an output was counted by hand.
+// How an answer of each kind is written; outputs that are read back; and texts that aren't outputs. An output is what a run
+// writes: a script, the answers to its queries, and the end. In the tables, the length of a text's longest prefix that could
+// begin an output was counted by hand.
 use crate::samples::{SAMPLES, Sample, answer_of};
 use dd_certificate::{Answer, answer_line, write_answer};
 use dd_output::{CertificateFault, read_output, write_output};

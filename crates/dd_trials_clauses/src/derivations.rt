@@ -1,6 +1,8 @@
-// Checks of refutations and of single steps. Clauses are given by signed numbers of variables, with 0 at the end of each clause.
-// A step is given by the literals of its clause, 0, its hints, 0, its deletes and 0. Hints are the numbers of the clauses from
-// which the step's clause follows, and deletes are the numbers of the clauses that the step removes.
+// Checks of refutations and of single steps. Clauses are given by signed numbers of variables, with 0 at the end of each
+// clause. A negative number stands for the negation of its variable. The clauses of the list are numbered from 1, and then the
+// clauses of the steps. A step is given by the literals of its clause, 0, its hints, 0, its deletes and 0. Hints are the
+// numbers of the clauses from which the step's clause follows, and deletes are the numbers of the clauses that the step
+// removes.
 use dd_clause::{Clause, Cnf, Literal};
 use dd_derivation::{Marks, Step, check_refutation, check_step};
 use dd_values::Items;
@@ -66,7 +68,7 @@ fn steps_of(alloc: Global, numbers: &[i32]) -> Result<Vec<Step>, AllocError> {
 // must be true.
 const GATE_IS_TRUE: &[i32] = &[1, 2, 0, -1, -2, 0, -3, 1, 0, -3, 2, 0, 3, -1, -2, 0, 3, 0];
 
-/// The results of two checks with the same marks. Between them, the last step is checked by itself.
+/// The results of two checks that use the same memory, `marks`. Between them, the last step is checked by itself.
 fn check_twice(alloc: Global, clauses: &[i32], steps: &[i32]) -> Result<[bool; 2], AllocError> {
     let cnf = cnf_of(alloc, clauses)?;
     let steps = steps_of(alloc, steps)?;
@@ -79,7 +81,7 @@ fn check_twice(alloc: Global, clauses: &[i32], steps: &[i32]) -> Result<[bool; 2
     Ok([first, second])
 }
 
-/// For each list of steps, asserts that both checks, with the clauses of the gate, have the result that is given with it.
+/// For each list of steps, asserts that both checks have the result given beside the list. The clauses are `GATE_IS_TRUE`.
 fn assert_checks(
     rt: &impl Abort,
     alloc: Global,
@@ -110,7 +112,7 @@ const HINTS_OF_ONE_STEP: &[(&[i32], bool)] = &[
     // a clause that is deleted twice, and a delete of the step itself, whose clause doesn't exist yet
     (&[0, 6, 3, 4, 2, 0, 6, 6, 0], false),
     (&[0, 6, 3, 4, 2, 0, 7, 0], false),
-    // the last clause is not empty
+    // the last step's clause is not empty
     (&[1, 0, 6, 3, 0, 0], false),
     (&[0, 6, 3, 4, 2, 0, 0, 1, 0, 6, 3, 0, 0], false),
 ];
@@ -169,7 +171,7 @@ fn a_literal_that_stands_twice_in_a_clause_counts_once(rt: HostRuntime) -> Resul
 /// hints to both. The list has no variable 9.
 const OUT_OF_RANGE: &[i32] = &[9, 0, 1, 0, 0, -9, 1, 0, 1, 0, 0, 1, 0, 7, 8, 0, 0];
 
-/// Steps, the index of the step that is checked after those before it, and whether this step is right.
+/// Steps, the index of the one step that is checked, and whether it is right after those before it.
 const STEPS_AFTER_EARLIER_ONES: &[(&[i32], usize, bool)] = &[
     (BOTH_AND_NOTHING, 0, true),
     (BOTH_AND_NOTHING, 1, true),

@@ -1,6 +1,6 @@
-// Rosters, which are lists of engines. An engine may propose an assignment that should satisfy a list of clauses, or steps that
-// should refute the list. Here the engines are propagators, walkers and fake engines. Each fake engine has a habit. Each roster
-// is asked twice about a list of clauses.
+// Rosters and their engines, which are propagators, walkers and fake engines. A propagator uses only unit propagation. A walker
+// starts with all variables false. Each of its flips makes a literal of an unsatisfied clause true. Each fake engine has a
+// habit. Each roster is asked twice about a list of clauses.
 ghost use Rattle.std.specs.Prelude.{false};
 
 use dd_clause::{Assignment, Clause, Cnf, Literal};
@@ -79,7 +79,7 @@ impl Engine for Fake {
     }
 }
 
-/// A member of a roster.
+/// A member of a roster. A walker has the number of flips that it may make.
 #[derive(Clone, Copy, Debug)]
 enum Member {
     Fake(Habit),
@@ -115,7 +115,8 @@ fn literal(number: i32) -> Literal {
     }
 }
 
-/// The clauses over two variables that the numbers give, with 0 at the end of each.
+/// The clauses over two variables that the signed numbers give, with 0 at the end of each clause. A negative number stands for
+/// the negation of its variable.
 fn cnf_of(alloc: Global, numbers: &[i32]) -> Result<Cnf, AllocError> {
     let mut cnf = Cnf::new(alloc, 2);
     let mut literals = Vec::new(alloc);

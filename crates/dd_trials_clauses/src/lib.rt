@@ -1,5 +1,10 @@
 //! Tests of clause lists, derivations, searches, engines and the texts of certificates: tables of cases, in addition to what is
 //! proved.
+//!
+//! A refutation of a clause list is a list of steps. Each step has a clause that follows from clauses before it. The last
+//! step's clause is empty. An engine may propose an assignment that should satisfy a clause list, or steps that should refute
+//! it. A roster is a list of engines. It asks them in order, until one makes a right proposal, and drops those whose proposals
+//! are wrong.
 #![tactic(auto)]
 
 #[cfg(test)]

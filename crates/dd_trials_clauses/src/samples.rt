@@ -1,4 +1,5 @@
-// An answer of each kind, with its first line and the lines that follow, written by hand.
+// An answer of each kind, with its first line and the lines that follow, written by hand. Only the texts are tested, so the
+// answers need not be right.
 use dd_certificate::{Answer, Listed, Reason, Side, Starred};
 use dd_clause::{Clause, Literal};
 use dd_derivation::Step;
@@ -36,7 +37,7 @@ fn yes(alloc: Global) -> Result<Answer, AllocError> {
     })
 }
 
-/// Refutations in both directions, with the largest hint in the first.
+/// Steps for both directions, with the largest variable and the largest hint in the first.
 fn yes_both(alloc: Global) -> Result<Answer, AllocError> {
     Ok(Answer::YesBoth {
         left: 3,
@@ -92,7 +93,7 @@ fn bound(alloc: Global) -> Result<Answer, AllocError> {
     })
 }
 
-/// Three patterns with stars, and one with neither symbols nor stars.
+/// Three patterns with stars, and one with neither symbols nor stars. A star stands for a cell that is left out.
 fn minimal(alloc: Global) -> Result<Answer, AllocError> {
     let mut patterns = Items::new(alloc);
     patterns.push(starred(alloc, 0, &[Some(1), None, Some(1)])?)?;
@@ -122,7 +123,7 @@ fn conjugate(alloc: Global) -> Result<Answer, AllocError> {
     })
 }
 
-/// The number of a box question with the answer NO, and a configuration that shows this NO.
+/// The number of that question of a conjugacy to which the answer is no, and a configuration that shows this.
 fn broken(alloc: Global, part: u64, periods: &[u64], shear: u64) -> Result<Answer, AllocError> {
     Ok(Answer::Broken {
         part,

@@ -113,7 +113,8 @@ fn four_in_three(alloc: Global) -> Result<Vec<i32>, AllocError> {
 }
 
 /// A number of variables, the number of clauses, their literals, and the answer. In the first two cases the variable 3 is the
-/// conjunction of the variables 1 and 2. One of these two must be true, and the other false.
+/// conjunction of the variables 1 and 2, and exactly one of the variables 1 and 2 is true. In the first case the variable 3 has
+/// to be true as well.
 const CASES: &[(u8, usize, &[i32], &str)] = &[
     (
         3,

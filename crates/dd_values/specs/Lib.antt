@@ -4,7 +4,7 @@ pub mod Bounds
 pub mod Ranges
 -- truth values of numbered variables
 pub mod Variables
--- counts of the faults of a source or a sink
+-- counts of the faults of sources and sinks, and of the calls and proposals of engines
 pub mod Counts
 -- how a recursive type may contain lists and boxes of its own values
 pub mod formers

@@ -1,4 +1,4 @@
--- What certificates for membership, box questions and equality claim is true.
+-- The claims of certificates for membership, box questions and equality are true.
 use Rattle.std.proofs.Common.{ℕ, List}
 use Rattle.dd_derivation.specs.{declared.step.Step.Step, lemmas.Soundness.refutes_sound}
 use Rattle.dd_formula.specs.LocalRule.{LocalRule, IsRule}

@@ -111,7 +111,7 @@ module _ (l : Limits) (c : ConjugacyOf) (limits : AreLimits l) (sound : EachPart
     subst (All IsWritableRefutation) (sym (four steps [] told.steps_four)) (all_four IsWritableRefutation _ _ _ _ one two three last),
   )
 
-  -- if the first three questions are answered YES, a test of the fourth YES decides whether there is a certificate that an output can hold
+  -- if the first three questions are answered YES, a test of the fourth YES decides whether the answer is a certificate that an output can hold
   pub each_decides : length radii ≡ 4 → length steps ≡ 4 → IsYesAt l radii steps 0 c.from c.image → IsFitAt steps 0 → IsYesAt l radii steps 1 c.to c.image_back → IsFitAt steps 1 →
       IsYesAt l radii steps 2 c.from c.round → IsFitAt steps 2 → (b : Bool) → (b ≡ true) ↔ IsYesAt l radii steps 3 c.to c.round_back → (b ≡ true → IsFitAt steps 3) →
       (b ≡ true) ↔ (IsWritable (answer.Conjugate radii steps) × IsConjugacyCertificate l c (answer.Conjugate radii steps))
@@ -121,7 +121,7 @@ module _ (l : Limits) (c : ConjugacyOf) (limits : AreLimits l) (sound : EachPart
     λ both. last.1 (each_of both.1).round_back,
   )
 
--- if every certificate passes a test, and the test fails, there is no certificate
+-- if every certificate passes a test, and the test fails, the answer is no certificate
 pub lacking : (b : Bool) (P W C : Type 0) → (b ≡ true) ↔ P → b ≡ false → (C → P) → (false ≡ true) ↔ (W × C)
 lacking b P W C told fails taken = nothing_holds (W × C) (λ both. false≢true (sym fails ∙ told.1 (taken both.1)))
 

@@ -1,4 +1,4 @@
--- What a list of the minimal patterns of a rule claims is true.
+-- The claim of the list of the minimal patterns of a rule is true.
 use Rattle.std.proofs.Common.{◌≡◌, ℕ, ◌<◌, Bool, true, false, List, [], Some, None, refl, ap, sym, ◌∙◌}
 use Rattle.std.proofs.lemmas.{Bool.false≢true, Bool.Decides.Decides-eqb, Slice.Eq.slice_eq-Decides}
 use Rattle.std.specs.{Prelude.◌↔◌, Prelude.Option, Prelude.nat_eq, List.All, Bool.Decides, Option.option_eq, Cmp.Lexicographic.pointwise}

@@ -1,4 +1,4 @@
--- The checks of densities and bounds decide whether there is a certificate that an output can hold. What such certificates claim is true.
+-- The checks of densities and bounds decide whether an answer is a certificate that an output can hold. The claims of such certificates are true.
 use Rattle.std.proofs.Common.{◌≡◌, ℕ, ◌+◌, Bool, true, false, List, refl, sym, ◌∙◌, ℤ}
 use Rattle.std.proofs.lemmas.{Bool.false≢true, Result.IfOk-weaker}
 use Rattle.std.specs.Prelude.{◌↔◌, Result, IfOk}

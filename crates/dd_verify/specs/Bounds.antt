@@ -35,7 +35,8 @@ pub record IsLeastOnStrip (x : LocalRule) (strip ws : List ℕ) (p q : ℕ) (cyc
   pub mean : IsInLowestTerms m l (walk_weight x (strip_for x strip) ws cycle) (length cycle)
   pub least : StripLeast x (strip_for x strip) ws p q l m (spread_of potentials)
 
--- what an answer about the least density claims
+-- What an answer about the least density claims. EMPTY claims that no configuration lives on the strip, and that no admissible filling has more
+-- slices than the greatest rank plus the number of slices in a state.
 pub data StripClaim (x : LocalRule) (strip ws : List ℕ) : Answer → Type 0 where
   claims_least : {p q : ℕ} {cycle : List ℕ} {potentials : List ℤ} → IsLeastOnStrip x strip ws p q cycle potentials → StripClaim x strip ws (answer.Density p q cycle potentials)
   claims_empty : {ranks : List ℕ} → StripEmpty x (strip_for x strip) (greatest ranks + state_length x) → StripClaim x strip ws (answer.Empty ranks)
@@ -51,8 +52,8 @@ pub data IsDischargeCertificate (x : LocalRule) (radius margin : ℕ) (vs : List
   no_pivots : IsDischargeCertificate x radius margin vs ws (answer.Unknown reason.Pivots)
 
 -- What a bound p / q claims. No amounts that meet the rows of the linear program give a greater bound. Now move Side(n), the box of side n, to any
--- position of Z^d, and take an admissible filling of all positions within reach of the moved box. On the moved box, this filling weighs at least n^d
--- times p / q, less what the box may receive from outside. So does each configuration that obeys the rule.
+-- position of Z^d, and take an admissible filling of all positions within reach of the moved box (see `reach_of` in dd_sides). On the moved box, this
+-- filling weighs at least n^d times p / q, less what the box may receive from outside. So does each configuration that obeys the rule.
 pub record IsBestBound (x : LocalRule) (ws : List ℕ) (radius margin : ℕ) (vs : List Place) (b : Bound) : Type 0 where
   pub best : BestOf x ws radius margin vs b.numerator b.denominator
   pub sides : HoldsOnSides x ws radius margin vs b

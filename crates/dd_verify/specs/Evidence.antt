@@ -13,7 +13,7 @@ use Rattle.dd_certificate.specs.declared.answer.Side.TheVariants as side
 use Rattle.dd_certificate.specs.declared.answer.Reason.TheVariants as reason
 use Rattle.dd_certificate.specs.declared.answer.Answer.TheVariants as answer
 
--- The goal's least radius is that of the smallest box that holds all cells that the goal reads at the origin. n is at least this least radius, and at
+-- The goal's least radius is the radius of the smallest box with all cells that the goal reads at the origin. n is at least this least radius, and at
 -- most the greater of the least radius and the limit. The steps refute the clauses that ask for an admissible filling of B(n), the box of radius n,
 -- with the goal at the origin. (A filling is admissible if the premise is true at each of its cells where all that the premise reads has a symbol.)
 pub record IsYes (l : Limits) (x : LocalRule) (g : GoalOf) (n : ℕ) (steps : List Step) : Type 0 where
@@ -37,8 +37,8 @@ pub data IsBoxCertificate (l : Limits) (x : LocalRule) (g : GoalOf) : Answer →
   box_unknown : IsBoxCertificate l x g (answer.Unknown reason.Limits)
 
 -- An equality is two box questions. The left one asks whether no configuration that obeys x breaks y, and the right one whether none that obeys y
--- breaks x. A certificate is a YES to both, a NO that names one of the two by its side and holds for that one, or UNKNOWN with the limits as the
--- reason.
+-- breaks x. A certificate is one of three answers: a YES to both questions; a NO to one of them, with the side of this question; or UNKNOWN with the
+-- limits as the reason.
 pub data IsEqualCertificate (l : Limits) (x y : LocalRule) : Answer → Type 0 where
   equal_yes : {n m : ℕ} {steps others : List Step} → IsYes l x (breaks y) n steps → IsYes l y (breaks x) m others → IsEqualCertificate l x y (answer.YesBoth n m steps others)
   left_no : {along : List ℕ} {shear : ℕ} {symbols : List ℕ} → IsNo l x (breaks y) along shear symbols → IsEqualCertificate l x y (answer.No side.Left along shear symbols)

@@ -14,7 +14,7 @@ use Rattle.dd_evidence.specs.{Cells.written_cell, Tiles.given_tile, Lists.listed
 use Rattle.dd_certificate.specs.declared.answer.Side.TheVariants as side
 use Rattle.dd_certificate.specs.declared.answer.Answer.TheVariants as answer
 
--- the rule is false at the cell that this place names
+-- the rule is false at the cell that this place names; a place is the coordinates of a position, and then a node
 abbrev pub IsFalseAt : LocalRule → Tile → List ℤ → Type 0
 IsFalseAt x t place = (c : Cell) × (place ≡ written_cell x.dimension c) × (is_true x c (tile_look t) ≡ false)
 
@@ -32,8 +32,8 @@ pub data BoxClaim (x : LocalRule) (g : GoalOf) : Answer → Type 0 where
   says_witness : {along : List ℕ} {shear : ℕ} {symbols : List ℕ} → IsWitness x g (given_tile x along shear symbols) → BoxClaim x g (answer.No side.Whole along shear symbols)
   says_nothing : {r : Reason} → BoxClaim x g (answer.Unknown r)
 
--- Equality. YES claims that the goals of both box questions hold nowhere: with the premise x, y is broken nowhere, and with the premise y, x is
--- broken nowhere. NO names a side. It claims that the configuration lives in the subshift of the rule on this side, and breaks the other rule at the
+-- Equality. YES claims that the goals of both box questions hold nowhere: y is broken nowhere under the premise x, and x is broken nowhere under the
+-- premise y. NO names a side. It claims that the configuration lives in the subshift of the rule on this side, and breaks the other rule at the
 -- origin. UNKNOWN claims nothing.
 pub data EqualClaim (x y : LocalRule) : Answer → Type 0 where
   says_equal : {n m : ℕ} {steps others : List Step} → HoldsNowhere x (breaks y) n → HoldsNowhere y (breaks x) m → EqualClaim x y (answer.YesBoth n m steps others)
@@ -50,7 +50,7 @@ pub data ConjugacyClaim (c : ConjugacyOf) : Answer → Type 0 where
       ConjugacyClaim c (answer.Broken k along shear symbols)
   says_no_more : {r : Reason} → ConjugacyClaim c (answer.Unknown r)
 
--- the cells that the rule reads at the node a, moved by v, have these symbols under the look (which gives cells their symbols)
+-- the look-up (which gives cells their symbols) gives these symbols to the cells that the rule reads at the node a, moved by v
 abbrev pub AreReadAt : LocalRule → Look → Place → ℕ → List ℕ → Type 0
 AreReadAt x look v a ss = map (λ c. look (shifted v c)) (cells_at x a) ≡ map Some ss
 
@@ -75,7 +75,7 @@ pub record SayMinimal (x : LocalRule) (a : ℕ) (ps : List (List (Option ℕ))) 
   pub tells : TellsCovered x a ps
   -- each cell of a pattern is needed: without it, the pattern would forbid something that the rule allows
   pub needed : All (NeedsEach x a) ps
-  -- each pattern is needed: some filling that breaks the rule agrees with this pattern, and with no earlier one
+  -- each pattern is new: some filling that breaks the rule agrees with this pattern, and with no earlier one
   pub new : AreNew x a [] ps
 
 -- what a list of minimal patterns claims: each pattern is at a node of the rule, and `SayMinimal` is true of the patterns at each node

@@ -1,6 +1,6 @@
--- Which answers about the least weight on a torus are certificates, and what they claim. The least weight on a torus is that of the fundamental box
--- (the box that repeats), over the configurations with given periods and no shear that live in the rule's subshift. `along` lists the periods, and
--- `ws` the weights of the symbols.
+-- Which answers about the least weight on a torus are certificates, and what they claim. The least weight on a torus is the least weight of the
+-- fundamental box (the box that repeats), over the configurations of allowed symbols with given periods and no shear that live in the rule's
+-- subshift. `along` lists the periods, and `ws` the weights of the symbols.
 use Rattle.std.specs.Prelude.{ℕ, ◌≡◌, ◌<◌, List}
 use Rattle.dd_pattern.specs.{Periods.periods_of, Tile.Tile, Tile.tile, Weight.total_weight}
 use Rattle.dd_formula.specs.LocalRule.{LocalRule}
@@ -14,7 +14,7 @@ use Rattle.dd_certificate.specs.declared.answer.Answer.TheVariants as answer
 abbrev pub torus_tile : LocalRule → List ℕ → List ℕ → Tile
 torus_tile x along symbols = tile x.dimension (periods_of along 0) x.nodes symbols
 
--- the configuration with these periods and symbols lives in the rule's subshift, and its fundamental box weighs w
+-- the symbols are allowed, the configuration with these periods and symbols lives in the rule's subshift, and its fundamental box weighs w
 pub record HasWeight (x : LocalRule) (along ws : List ℕ) (w : ℕ) (symbols : List ℕ) : Type 0 where
   pub lives : IsWitness x always (torus_tile x along symbols)
   pub weighs : total_weight ws symbols ≡ w

@@ -75,8 +75,9 @@ pub(crate) fn check_box(
     }
 }
 
-/// Whether the configuration certifies a NO on this side, and an output can hold this NO. On the left side, the configuration must
-/// obey `left` and break `right` at the origin. On the right side, it must obey `right` and break `left` at the origin.
+/// Whether the configuration certifies a NO on this side, and an output can hold this NO. On the left side, the configuration
+/// must obey `left` and break `right` at the origin. On the right side, it must obey `right` and break `left` at the origin.
+/// For `Side::Whole`, the result is false.
 fn check_side(
     alloc: Global,
     left: &Rule,

@@ -1,5 +1,6 @@
 //! The check of answers to conjugacy questions. A conjugacy question asks whether two maps between two subshifts are inverse to
-//! each other. It comes down to four box questions.
+//! each other. It comes down to four box questions. The first two ask whether each map leads from its subshift into the other
+//! one. The last two ask whether each map, followed by the other one, changes nothing.
 ghost use Rattle.std.specs.Prelude.{[], ◌<◌, ◌↔◌, length, slice_index_or, IsTrue, IfOk};
 ghost use Rattle.dd_boxes.specs.Views.{goal_of};
 ghost use Rattle.dd_certificate.specs.declared.answer.Answer.TheVariants as answer;
@@ -23,7 +24,7 @@ use std::alloc::{AllocError, Global};
 /// The number of box questions that make up a conjugacy.
 const PARTS: usize = 4;
 
-/// Whether the radius and the steps at the index `number`, from 0, certify a YES to the box question.
+/// Whether the radius and the steps with the index `number` certify a YES to the box question. Indices start at 0.
 fn check_at(
     alloc: Global,
     premise: &Rule,
@@ -72,8 +73,8 @@ fn check_each(
     check_at(alloc, c.to, &c.round_back, limits, radii, steps, 3)
 }
 
-/// Whether the configuration certifies a NO to the box question with the number `part`, and an output can hold it. These numbers
-/// go from 1 to 4. If `part` is any other number, the result is false.
+/// Whether the configuration certifies a NO to the box question with the number `part`, and an output can hold this NO. The
+/// questions are numbered from 1 to 4. If `part` is any other number, the result is false.
 fn check_part(
     alloc: Global,
     c: &Conjugacy,

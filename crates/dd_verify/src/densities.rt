@@ -1,7 +1,8 @@
-//! The check of answers about the least density of a strip. A strip has periods along y and z, and no end along x. The density
-//! of a configuration is its weight per position. The certificate is a cycle (a closed walk through the transfer graph of the
-//! strip) and a number for each state of the graph, its potential. If no configuration lives on the strip, the certificate has
-//! another number for each state instead, its rank, which falls along each edge.
+//! The check of answers about the least density of a strip. A strip has periods along y and z, and no end along x. A
+//! configuration lives on the strip if it has allowed symbols, these periods and no shear, and obeys the rule. The density of a
+//! configuration is its weight per position. The certificate is a cycle (a closed walk through the transfer graph of the strip)
+//! and a number for each state of the graph, its potential. If no configuration lives on the strip, the certificate instead has
+//! a rank for each state, a number that falls along each edge.
 ghost use Rattle.std.specs.Prelude.{◌↔◌, IsTrue, IfOk};
 ghost use Rattle.dd_strip.specs.Strips.{strip_for};
 ghost use Rattle.dd_transfer.specs.Certificates.{IsDensityCertificate, IsEmptyCertificate};

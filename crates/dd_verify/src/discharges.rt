@@ -1,5 +1,6 @@
-//! The check of answers about the best bound of a discharge. In a discharge, each position sends amounts along given vectors. The
-//! bound is a lower bound for what each position holds afterwards.
+//! The check of answers about the best bound of a discharge. In a discharge, each position first holds its weight, and then
+//! gives amounts along given vectors. The bound is a lower bound for what each position holds afterwards. It is the best if no
+//! other amounts give a greater bound.
 ghost use Rattle.std.specs.Prelude.{◌≡◌, ◌↔◌, ◌⊎◌, IsTrue, IfOk};
 ghost use Rattle.dd_certificate.specs.declared.answer.Answer.TheVariants as answer;
 ghost use Rattle.dd_certificate.specs.Bounds.{IsWritable};

@@ -36,9 +36,9 @@ fn goal_facts(goal: &Goal)
     }
 }
 
-/// Does nothing. Its contract says that the claim of each certificate for the question is true. The claim of a bound is about
-/// boxes of every side length at every position: a box weighs at least the number of its positions times the bound, less what
-/// the box may receive from outside.
+/// Does nothing. Its contract says that the claim of each certificate for the question is true. BOUND, the answer about a
+/// discharge, claims that its bound is the best, and that it holds for boxes of every side length at every position: a box
+/// weighs at least the number of its positions times the bound, less what the box may receive from outside in the discharge.
 pub fn claims_hold(question: &CheckedQuestion)
     ensures { (answer : AnyAnswer) → IsCertificateOf question.now.limits question.now.question answer → ClaimOf question.now.question answer }
 {

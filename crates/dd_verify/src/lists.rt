@@ -1,4 +1,6 @@
-//! The check of a list of forbidden patterns.
+//! The check of a list of forbidden patterns. Such a pattern gives an allowed symbol to each cell that the rule reads at a
+//! node, and with these symbols the rule is false there. The list goes node by node. At each node, the patterns are in
+//! lexicographic order.
 ghost use Rattle.std.specs.Prelude.{◌≡◌, ◌↔◌, IsTrue, IfOk};
 ghost use Rattle.dd_certificate.specs.Bounds.{IsWritable};
 ghost use Rattle.dd_question.specs.Lists.{HasFewPatterns};

@@ -1,4 +1,7 @@
-//! The check of a list of minimal forbidden patterns.
+//! The check of a list of minimal forbidden patterns. Such a pattern gives symbols to some of the cells that the rule reads at
+//! a node, and leaves the others out. The rule is false there whatever allowed symbols the others have, and no further cell can
+//! be left out. Each rule has one list of such patterns (see `dd_minimal`). The list need not have all of them, but those that
+//! it has together forbid exactly what the rule forbids.
 ghost use Rattle.std.specs.Prelude.{◌≡◌, ◌↔◌, IsTrue, IfOk};
 ghost use Rattle.dd_certificate.specs.Bounds.{IsWritable};
 ghost use Rattle.dd_question.specs.Lists.{HasFewPatterns};
@@ -32,7 +35,7 @@ fn are_same(left: &[Starred], right: &[Starred]) -> bool
     true
 }
 
-/// Whether these are all the minimal patterns of the rule, in the right order.
+/// Whether these patterns are the rule's list of minimal patterns.
 fn is_minimal(alloc: Global, rule: &Rule, patterns: &[Starred]) -> Result<bool, AllocError>
     requires { HasFewPatterns rule.now }
     ensures { IfOk result (λ same. IsTrue same ↔ IsStarredList rule.now patterns.now) }

@@ -1,5 +1,5 @@
-//! The check of answers about membership. An answer names a cell by its place: the coordinates of its position, and then its node.
-//! Nothing here takes memory.
+//! The check of answers about membership. An answer names a cell of Z^d by its place: the d coordinates of its position, and
+//! then its node. Nothing here allocates memory.
 ghost use Rattle.std.specs.Prelude.{◌≡◌, ◌≤◌, ◌↔◌, [], ◌∷◌, pos, IsTrue};
 ghost use Rattle.dd_formula.specs.Living.{Fits};
 ghost use Rattle.dd_certificate.specs.Bounds.{IsWritable};
@@ -13,7 +13,7 @@ use dd_formula::{Membership, Rule};
 use dd_lattice::Cell;
 use dd_pattern::Periodic;
 
-/// The coordinates of the cell's position.
+/// All three coordinates of the cell's position.
 fn coordinates(cell: &Cell) -> [i64; 3]
     ensures { result ≡ cell.now.position.x ∷ cell.now.position.y ∷ cell.now.position.z ∷ [] }
 {
@@ -76,7 +76,7 @@ fn is_member_certificate(rule: &Rule, periodic: &Periodic, answer: &Answer) -> b
     }
 }
 
-/// Whether the answer is right, and an output can hold it. An output can hold each right answer.
+/// Whether the answer is right, and an output can hold it. An output can hold each right answer, so this needs no test.
 pub(crate) fn check_member(rule: &Rule, periodic: &Periodic, answer: &Answer) -> bool
     requires { Fits rule.now periodic.now }
     ensures { IsTrue result ↔ (IsWritable answer.now × IsMemberCertificate rule.now periodic.now answer.now) }

@@ -44,9 +44,9 @@ fn refutes(
     Ok(check_refutation(&cnf, steps, &mut marks))
 }
 
-/// Whether the radius is within the limits, and the steps refute the clauses of the box of this radius. The goal's least radius is
-/// that of the smallest box that holds all cells that the goal reads at the origin. The radius must be at least this least radius,
-/// and at most the greater of the least radius and the limit.
+/// Whether the radius is within the limits, and the steps refute the clauses of the box of this radius. The goal's least radius
+/// is the radius of the smallest box with all cells that the goal reads at the origin. The radius must be at least this least
+/// radius, and at most the greater of the least radius and the limit.
 pub(crate) fn check_yes(
     alloc: Global,
     premise: &Rule,

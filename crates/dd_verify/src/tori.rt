@@ -1,6 +1,7 @@
 //! The check of answers about the least weight on a torus. This is the least weight of the fundamental box, over the
-//! configurations with given periods and no shear that live in a rule's subshift. The least weight is certified by a
-//! configuration of this weight, and by steps which show that none of these configurations weighs less.
+//! configurations of allowed symbols with given periods and no shear that live in a rule's subshift. The least weight is
+//! certified by a configuration of this weight and, unless it is 0, by steps which show that none of these configurations
+//! weighs less. If there are no such configurations, the certificate has steps which show this.
 ghost use Rattle.std.specs.Prelude.{◌≡◌, ◌≤◌, ◌<◌, ◌↔◌, length, IsTrue, IfOk, MatchOption};
 ghost use Rattle.dd_pattern.specs.Periods.{periods_of};
 ghost use Rattle.dd_pattern.specs.Tile.{IsTile};
@@ -48,7 +49,7 @@ fn on_torus(
     }
 }
 
-/// Whether the configuration lives in the rule's subshift and has this weight.
+/// Whether the configuration has allowed symbols, lives in the rule's subshift and has this weight.
 fn weighs(
     alloc: Global,
     rule: &Rule,
@@ -66,7 +67,7 @@ fn weighs(
     shows(alloc, rule, &Goal::Always, periodic)
 }
 
-/// Whether the symbols give a configuration that lives in the rule's subshift and has this weight.
+/// Whether the symbols are allowed, and give a configuration that lives in the rule's subshift and has this weight.
 fn has_weight(
     alloc: Global,
     rule: &Rule,

@@ -65,7 +65,8 @@ join_rank Join.Or = 2
 join_rank Join.Implies = 3
 join_rank Join.Iff = 4
 
--- whether a formula may stand at a place without parentheses
+-- Whether a formula may stand at a place without parentheses. If so, each of its parts may stand at the part's own place, each quantifier has at
+-- least one ball, and each chain has at least two parts.
 abbrev pub stands_step : Formula-F (ℕ → Bool) → ℕ → Bool
 stands_step (Formula-F.Atom a) place = true
 stands_step (Formula-F.Not f) place = f 0

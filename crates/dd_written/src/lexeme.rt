@@ -70,6 +70,7 @@ pub enum Lexeme {
     Negative(Number),
     /// A mark.
     Mark(Mark),
-    /// Stands for bytes that aren't allowed. It comes last in the list, and no command contains it.
+    /// Stands for the first byte that isn't allowed, as `Tokens` of `dd_tokens` says, and for all bytes after it. It comes last
+    /// in the list of lexemes, and no command contains it.
     Stray,
 }

@@ -1,5 +1,6 @@
 //! The grammar of formulas. Bytes are read as lexemes, which are tokens as the grammar sees them. Lexemes are read as syntax
-//! trees.
+//! trees. A sign is `&`, `|`, `->` or `<->`, and a chain is two or more formulas with the same sign between them. The text of a
+//! formula is the list of its lexemes.
 #![tactic(auto)]
 
 mod depth;

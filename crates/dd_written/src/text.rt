@@ -42,7 +42,7 @@ fn decimal(digits: &[u8]) -> u32
 }
 
 impl Text {
-    /// A text with these bytes. Fails only if memory runs out.
+    /// A text with these bytes, which must be ASCII. Fails only if memory runs out.
     pub fn new(alloc: Global, bytes: &[u8]) -> Result<Text, AllocError>
         requires { IsAscii bytes.now }
         ensures { IfOk result (λ text. text ≡ bytes.now) }

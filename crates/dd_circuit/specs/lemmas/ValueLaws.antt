@@ -123,7 +123,7 @@ pub values_only : (circuit : Network) (inputs values : List Bool) (gs : List Gat
 values_only circuit inputs values gs i ok same all is others are =
     AreValues-unique circuit inputs others (rw same at ok) are ∙ sym (is ∙ ap (values_from inputs) (take_all i gs all ∙ same))
 
--- once the gates before index i have their values, so has each variable that the gate at index i is over
+-- once the gates before index i have their values, so have the members of the gate at index i
 pub gate_here : (n : ℕ) (inputs vs : List Bool) (gs : List Gate) (i : ℕ) (g : Gate) → length inputs ≡ n → AreGates n gs → i < length gs →
     vs ≡ values_from inputs (take i gs) → g ≡ get_or gs i g → IsGate (length vs) g
 gate_here n inputs vs gs i g full ok within is here =

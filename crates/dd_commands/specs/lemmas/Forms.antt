@@ -89,7 +89,7 @@ module _ {X : Type 0} (writes : X → List Lexeme → List Lexeme → Type 0) (i
       let given = λ (o : Option (X × List Lexeme)). is_some o in
       many_again writes (λ ts. is_some (item ts)) item (λ x ts more w. let e = read x ts more w in (ap given e, e)) n xs tokens rest le (λ lt. ap given (ended lt)) all
 
--- the same, for items that are written as the tokens that `text` gives
+-- several items in a row, each written as the tokens that `text` gives, are read as they are written
 module _ {X : Type 0} (text : X → List Lexeme) (texts : List X → List Lexeme) (item : Reader X) (same : (xs : List X) → flat_map text xs ≡ texts xs) (is : Reads (by_text text item)) where
   texts_written : (n : ℕ) (tokens : List Lexeme) (xs : List X) (rest : List Lexeme) → at_most item n tokens ≡ Some (xs, rest) → tokens ≡ texts xs ++ rest
   texts_written n tokens xs rest e = rw (← same xs) (texts_read text xs tokens rest (most_written (ByText text) item (λ ts x more f. (is.written ts x more f).1) (λ x ts more w. ap item w ∙ is.read x more tt tt) n tokens xs rest e))

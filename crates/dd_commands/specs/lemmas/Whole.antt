@@ -1,4 +1,4 @@
--- A part is read exactly when it is a command without stray tokens, and the stage of the command is at least `from`.
+-- A part is read exactly when it has no stray token and is a command of stage `from` or higher.
 use Rattle.std.proofs.Common.{◌≡◌, ℕ, List, Some, refl, sym, ap, subst, nat_le, leb-true, le-leb, ◌&&◌}
 use Rattle.std.{specs.List.list_all, proofs.lemmas.Bool.and_parts, proofs.lemmas.Option.cond_some}
 use Rattle.dd_commands.specs.{Tree.Lexeme, Tree.Command, Tree.Written, Heads.head_of, Heads.stage, Scripts.is_whole, Scripts.MayStand}

@@ -83,7 +83,7 @@ chosen_says set n before (l ∷ ls) (x ∷ xs) s long ok =
     ∙ (ap (λ c. ((x == s) && (b && none)) || c) rest
     ∙ (one_more (x == s) b none (p == s) ∙ ap (λ c. none && c) (equal_where b x p s))))
 
--- the signal of each of these gates says whether some member of the gate is true
+-- the signal of each symbol's gate says whether some member of the gate is true
 pub gates_say : (set : ℕ → Bool) (m j k : ℕ) (among : ℕ → List Signal) (i : ℕ) (x : Signal) → agrees set m (map (λ s. Or (among s)) (range_with_len j k)) ≡ true →
     slice_get (fresh m k) i ≡ Some x → signal_value set x ≡ list_any (signal_value set) (among (j + i))
 gates_say set m j zero among i x ok is = absurd (cc)

@@ -44,7 +44,7 @@ all_say (e ∷ es) set wires p look n tell wired ok =
     let both = and_parts (agrees set n gs) (agrees set (n + length gs) hs) (sym (agrees-append set n gs hs) ∙ ok) in
     rw (e.1 set wires p look n tell w.0 both.0, all_say es set wires p look (n + length gs) tell w.1 both.1) refl
 
--- if all gates have their values, the gates before the last one do, and so does the last one
+-- if all gates have their values, so have the gates before the last one, and the last gate's signal has that gate's value
 pub last_gate : (set : ℕ → Bool) (n : ℕ) (gs : List Gate) (g : Gate) → agrees set n (then_gate n gs g).gates ≡ true →
     (agrees set n gs ≡ true) × (signal_value set (then_gate n gs g).signal ≡ gate_value set g)
 last_gate set n gs g ok =

@@ -33,7 +33,7 @@ pub at_most_one_more : (old mid new : Network) (g : Gate) (r : Result Signal All
 at_most_one_more old mid new g (Ok s) so_far inputs gates same = one_more old mid new g so_far inputs gates
 at_most_one_more old mid new g (Err x) so_far inputs gates same = subst (Extends old) (sym same) so_far
 
--- the gates of all parts are those made so far and those of the parts from i on
+-- the state after the first i parts: the gates of all parts are those made so far and those of the parts from i on
 pub record Progress (w : Wires) (parts : List Expanded) (i : ℕ) (start now : Network) (signals : List Signal) : Type 0 where
   pub extends : Extends start now
   pub signals_left : (all_made (map (made (certain w)) parts) (size start)).signals ≡ signals ++ (all_made (map (made (certain w)) (drop i parts)) (size now)).signals

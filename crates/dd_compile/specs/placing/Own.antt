@@ -5,7 +5,7 @@ use Rattle.dd_formula.specs.LocalRule.{LocalRule, IsRule, cells_at, expansion_at
 use Rattle.dd_circuit.specs.{declared.gates.Signal.Signal, Circuits.Network}
 use Rattle.dd_compile.specs.{Wiring.Wiring, Compiling.Made, Compiling.compiled, ValueGates.fresh}
 
--- for each cell the signals of m new variables, which follow n other variables and those of the cells before it
+-- for each cell in turn, the signals of the next m variables, from the variable n + 1 on
 abbrev pub signals_in_turn : ℕ → ℕ → List Cell → List (List Signal)
 signals_in_turn m n [] = []
 signals_in_turn m n (c ∷ cs) = fresh n m ∷ signals_in_turn m (n + m) cs

@@ -54,7 +54,7 @@ least_shown x p ws w t steps lives weighs none some refuted = record {
   empty = λ zero. absurd (omega (arith, some, zero));
 }
 
--- the same for each rule, with the clauses of `weight_problem`
+-- `least_refuted` and `none_lives` again, without the assumption `ShowsWeights`, which holds for each rule
 module _ (x : LocalRule) (p : Periods) (ws : List ℕ) (rule : IsRule x) (ok : AreTorusPeriods x.dimension x.nodes p) (same : length ws ≡ x.symbols) where
   pub least_claimed : (w : ℕ) (t : Tile) (steps : List Step) → IsLiving x p t → total_weight ws t.symbols ≡ w → (0 < w → IsRefuting (weight_problem x p ws w) steps) → LeastOn x p ws w
   least_claimed w t steps lives weighs refuting = least_refuted x p ws w t steps lives weighs (λ _. weight_shows x p ws w rule ok same) refuting

@@ -1,4 +1,4 @@
--- The clauses with the counter are satisfied exactly by the configurations of small weight.
+-- The clauses with the counter are satisfied exactly by the living configurations that are light.
 use Rattle.std.proofs.Common.{◌≡◌, ℕ, zero, suc, ◌+◌, ◌*◌, ◌<◌, ◌≤◌, Bool, true, false, List, [], ◌++◌, length, refl, ap, sym, subst, ◌∙◌, arith, Some, None}
 use Rattle.std.proofs.lemmas.Bool.{and_parts, and_from, ltb-false, le-ltb}
 use Rattle.std.proofs.lemmas.List.{Folds.list_all-append, Elements.All-nil}
@@ -53,7 +53,8 @@ silent_at set (suc b) ws signals t none say light =
     let below = suc b in
     sym (said_at set signals (below - 1)) ∙ (say (below - 1) (omega arith) ∙ le-ltb (below - 1) (total_weight ws t.symbols) (light_at below ws t light (omega arith)))
 
--- what is needed of the torus's clauses: they say what they should, use only their own variables, and have inputs for c cells
+-- What `weighed_shows` needs. The torus's clauses ask for living configurations, use only their own variables, and have inputs for the c cells of the
+-- fundamental box. Each symbol has a weight.
 pub record Stand (base : ClauseList) (x : LocalRule) (periods : Periods) (ws : List ℕ) (c : ℕ) : Type 0 where
   pub shows : ShowsTorus base.clauses x always periods
   pub own : (set other : ℕ → Bool) → Alike base.variables other set → Satisfies set base.clauses → Satisfies other base.clauses

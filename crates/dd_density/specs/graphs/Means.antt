@@ -13,14 +13,15 @@ abbrev pub IsMeanOver : ℕ → Mean → Type 0
 IsMeanOver volume (mean.Least m l cycle ps) = (0 < l * volume) × (l * volume ≤ most_number) × (m ≤ most_number)
 IsMeanOver volume (mean.NoCycle ranks) = Unit {0}
 
--- p / q is the mean m / l divided by `volume`, in lowest terms, and the walk and the potentials are those of the mean
+-- p / q is the mean m / l divided by `volume`, in lowest terms. The walk and the potentials are those of the mean. The number of each state of the
+-- walk is less than 2^32.
 pub record IsDensityOf (volume m l : ℕ) (cycle : List ℕ) (ps : List ℤ) (p q : ℕ) (walk : List ℕ) (qs : List ℤ) : Type 0 where
   pub density : IsInLowestTerms p q m (l * volume)
   pub walk_is : walk ≡ cycle
   pub potentials_are : qs ≡ ps
   pub small : All (λ u. u < 2 ^ 32) walk
 
--- the answer is the density for the least mean, or `Empty` if there is no closed walk
+-- the answer is the density for the least mean, or `Empty` with the same ranks, each less than 2^32, if there is no closed walk
 abbrev pub IsOfMean : ℕ → Mean → Density → Type 0
 IsOfMean volume (mean.Least m l cycle ps) (Least p q walk qs) = IsDensityOf volume m l cycle ps p q walk qs
 IsOfMean volume (mean.Least m l cycle ps) (Empty ranks) = ⊥

@@ -4,7 +4,7 @@ use Rattle.dd_transfer.specs.{Graphs.Transfer, Graphs.next_of, Graphs.weight_at,
 use Rattle.dd_meancycle.specs.Means.{IsCycle, ArePotentials, AreRanks, weight_of}
 
 -- The walk is closed, and its mean is m / l in lowest terms. The density p / q, in lowest terms, is m / l divided by the number of positions in a
--- slice, which is `volume`. The potentials are right for m / l.
+-- slice, which is `volume`. There is a potential for each state, and along each edge of weight w the potential rises by at most l * w - m.
 pub record IsShown (g : Transfer) (volume p q : ℕ) (walk : List ℕ) (ps : List ℤ) : Type 0 where
   pub m : ℕ
   pub l : ℕ

@@ -41,9 +41,8 @@ abbrev pub literals_of : List (Option (List Literal)) → List ℕ → List Lite
 literals_of known [] = []
 literals_of known (h ∷ hints) = unwrap_or (clause_of known h) [] ++ literals_of known hints
 
--- Whether a literal is false, if its variable is out of range and so has no mark. The variable has no value until a hinted clause
--- contains it. The first such clause forces the literal in which the variable occurs there. `seen` holds the literals of the
--- clauses hinted so far.
+-- Whether a literal is false. Its variable is out of range, so it has no mark. The variable has no value until a hinted clause contains it. So the
+-- first such clause forces the literal of this variable that it contains. `seen` holds the literals of the clauses hinted so far.
 abbrev pub is_false_unmarked : List Literal → Literal → Bool
 is_false_unmarked seen l = option_map_or (λ m. same_literal l (negation m)) (first_literal_of l.variable seen) false
 

@@ -140,8 +140,8 @@ first_literal_of-more v xs i d lt h n = ap (first_literal_of v) (take_more xs i 
 abbrev pub UnmarkedAre : List Literal → List Literal → ℕ → Type 0
 UnmarkedAre seen falses v = (y : Literal) → y.variable ≡ v → is_false_unmarked seen y ≡ is_among falses y
 
--- A variable out of range gets its value from the first hinted clause that contains it. All other literals of that clause are
--- false, so the clause forces the literal in which the variable occurs there.
+-- A variable out of range has no value until a hinted clause contains it. Its literal in the first such clause is not false, so this is the literal
+-- that the clause forces.
 unmarked_more : (seen falses c : List Literal) (l x : Literal) → UnmarkedAre seen falses x.variable → Forces (is_among falses) c l → is_false_unmarked (seen ++ c) x ≡ is_among (negation l ∷ falses) x
 unmarked_more seen falses c l x a f = go (first_literal_of x.variable seen) refl
   where

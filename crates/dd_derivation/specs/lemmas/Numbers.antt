@@ -91,14 +91,15 @@ pub without-known_of : (cs : List (List Literal)) (alive : List Bool) (number : 
 without-known_of cs alive zero n = absurd (n refl)
 without-known_of cs alive (suc k) n = let e : suc k - 1 ≡ k = omega arith in rw e (sym (known_of-set cs alive k))
 
--- if the clause with the number at index i can be deleted, the later numbers decide whether the clauses with the numbers from i on can all be deleted
+-- Let the clause named at index i be alive. Then all clauses named from index i on can be deleted exactly when, after its deletion, all clauses named
+-- later can be deleted.
 pub deletes_one : (cs : List (List Literal)) (alive : List Bool) (numbers : List ℕ) (i : ℕ) → i < length numbers → (get_or numbers i 0 ≡ 0 → ⊥) → get_or numbers i 0 - 1 < length cs → length cs ≤ length alive → get_or alive (get_or numbers i 0 - 1) false ≡ true → are_deletable (known_of cs alive) (drop i numbers) ≡ are_deletable (known_of cs (set alive (get_or numbers i 0 - 1) false)) (drop (i + 1) numbers)
 deletes_one cs alive numbers i h n p l a = rw (drop-cons numbers i 0 h, add-one i, alive_some cs alive (get_or numbers i 0) n p l a, without-known_of cs alive (get_or numbers i 0) n) refl
 
 pub after_one : (cs : List (List Literal)) (alive : List Bool) (numbers : List ℕ) (i : ℕ) → i < length numbers → (get_or numbers i 0 ≡ 0 → ⊥) → known_after (known_of cs alive) (drop i numbers) ≡ known_after (known_of cs (set alive (get_or numbers i 0 - 1) false)) (drop (i + 1) numbers)
 after_one cs alive numbers i h n = rw (drop-cons numbers i 0 h, add-one i) (ap (λ (known : List (Option (List Literal))). known_after known (drop (suc i) numbers)) (without-known_of cs alive (get_or numbers i 0) n))
 
--- if the number at index i has no clause, the clauses with the numbers from i on cannot all be deleted
+-- if the number at index i has no clause, the clauses named from index i on cannot all be deleted
 pub deletes_none : (cs : List (List Literal)) (alive : List Bool) (numbers : List ℕ) (i : ℕ) → i < length numbers → is_some (clause_of (known_of cs alive) (get_or numbers i 0)) ≡ false → are_deletable (known_of cs alive) (drop i numbers) ≡ false
 deletes_none cs alive numbers i h e = rw (drop-cons numbers i 0 h, e) refl
 

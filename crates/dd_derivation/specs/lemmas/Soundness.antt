@@ -43,7 +43,7 @@ or_left_out : (a b : Bool) → a ≡ false → (a || b) ≡ true → b ≡ true
 or_left_out true b e h = cc
 or_left_out false b e h = h
 
--- if some literal of the clause is true, one that the test does not call false is true
+-- if some literal of the clause is true, then so is one of those that the test does not call false
 kept_true : (set : ℕ → Bool) (is_false : Literal → Bool) (clause : List Literal) → MarksFalse set is_false → list_any (is_true_under set) clause ≡ true → list_any (is_true_under set) (filter (λ l. not (is_false l)) clause) ≡ true
 kept_true set is_false [] m h = h
 kept_true set is_false (l ∷ clause) m h =

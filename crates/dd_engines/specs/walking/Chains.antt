@@ -11,7 +11,7 @@ along zero links at = []
 along (suc most) links zero = []
 along (suc most) links (suc at) = option_map_or (λ link. link.number ∷ along most links link.next) (slice_get links at) []
 
--- the clause numbers along a whole chain
+-- the clause numbers along a whole chain, if each link leads to an earlier one, or to none: the chain then has at most `at` links
 abbrev pub chain_of : List Link → ℕ → List ℕ
 chain_of links at = along at links at
 

@@ -3,7 +3,8 @@ use Rattle.std.specs.Prelude.{◌≡◌, ℕ, ◌^◌, ◌<◌, Bool, List, leng
 use Rattle.dd_clause.specs.{declared.clause.Literal.Literal, Clauses.IsClauseInRange}
 use Rattle.dd_engines.specs.walking.Truths.{true_count, IsListed}
 
--- the counts of true literals, and the marks of the blocks where a clause may have none, agree with the clauses and the values
+-- The literals of the clauses are in range, and the clauses' lengths fit in 64 bits. The counts of true literals, and the marks of the blocks where
+-- a clause may have none, agree with the clauses and the values.
 pub record Walks (clauses : List (List Literal)) (values : List Bool) (counts : List ℕ) (marks : List Bool) (start : ℕ) : Type 0 where
   pub range : All (IsClauseInRange (length values)) clauses
   pub short : All (λ clause. length clause < 2 ^ 64) clauses

@@ -24,7 +24,7 @@ use Rattle.dd_expansion.specs.lemmas.ListTests.{list_all-alike, list_all-flat_ma
 use Rattle.dd_expansion.specs.lemmas.LeafLaws.{leaves_are_cells}
 use Rattle.dd_values.specs.lemmas.Booleans.{and_true, and_same}
 
--- for each kind of expansion, when its leaves pass a test
+-- for each kind of expansion, the condition under which its leaves pass the test
 module _ (test : LeafTest) where
   pub leaves_of_constant : (b : Bool) → leaves_pass test (constant b) ≡ true
   leaves_of_constant b = fold-roll-Expanded Bool (leaves_pass_step test) (Expanded-F.Constant b)
@@ -148,10 +148,11 @@ pub leaves_are_reads : (es : List Edge) (n : ℕ) → 1 ≤ n → (f : Formula) 
 leaves_are_reads es n some = ind-Formula (ReadsThose es n) (λ x y is env test.
     rw (fold-roll-Formula Expansion (expansion_step es n) x, fold-roll-Formula Reading (reads_step es) x, ← is) (step_reads es n some env test y))
 
--- two lists of cells that pass the same tests have the same cells
+-- whether c is the cell d
 abbrev is_cell : Cell → Cell → Bool
 is_cell d c = is_eq (cell_cmp c d)
 
+-- suppose that two lists of cells pass the same tests. Then each cell of the first is in the second
 members : (cs ds : List Cell) → ((test : Cell → Bool) → list_all test cs ≡ list_all test ds) → (d : Cell) → Contains cs d → Contains ds d
 members cs ds same d there =
     let in_one : list_any (is_cell d) cs ≡ true = passes_any (is_cell d) cs d there (ap is_eq (tied_itself cell_total d)) in
@@ -160,6 +161,7 @@ members cs ds same d there =
     let found = some_passes (is_cell d) ds in_other in
     subst (Contains ds) (cells_equal found.0 d ((Equal-is (cell_cmp found.0 d)).0 found.2)) found.1
 
+-- two lists of cells that pass the same tests have the same cells, so in cell order they are the same list
 pub same_by_tests : (cs ds : List Cell) → ((test : Cell → Bool) → list_all test cs ≡ list_all test ds) → in_order cs ≡ in_order ds
 same_by_tests cs ds same =
     is-in_order (in_order cs) ds (sorted-in_order cs)

@@ -38,7 +38,7 @@ holds_any_of es look = ap (λ h. h look) (fold-roll-Expanded (Look → Bool) hol
 pub holds_both_alike : (e f : Expanded) (look : Look) → holds (both_alike e f) look ≡ beq (holds e look) (holds f look)
 holds_both_alike e f look = ap (λ h. h look) (fold-roll-Expanded (Look → Bool) holds_step (Expanded-F.Iff e f))
 
--- some symbol below n is the symbol of both cells exactly when they have the same symbol and it is below n
+-- both symbols exist, and both are s
 abbrev are_both : Option ℕ → Option ℕ → ℕ → Bool
 are_both a b s = is_symbol s a && is_symbol s b
 
@@ -51,6 +51,7 @@ both_at x y n below h =
     let within : x < length (range_with_len 0 n) = omega (arith, length-range_with_len 0 n) in
     list_any_at (λ s. (x == s) && (y == s)) (range_with_len 0 n) x 0 within (rw at (and_from _ _ (eq-eqb x x refl) h))
 
+-- suppose that a is missing or below n. Then some symbol below n is both a and b exactly when both exist and are equal
 symbols_say : (n : ℕ) (a b : Option ℕ) → IfSome a (λ s. s < n) → list_any (are_both a b) (range_with_len 0 n) ≡ are_equal a b
 symbols_say n None b below = none_passes (are_both None b) (λ s. refl) (range_with_len 0 n)
 symbols_say n (Some x) None below = none_passes (are_both (Some x) None) (λ s. and_right (x == s) false refl) (range_with_len 0 n)

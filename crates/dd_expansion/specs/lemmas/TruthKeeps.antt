@@ -54,7 +54,7 @@ module _ (es : List Edge) (env : List Cell) (p : Cell → Bool) (look other : Lo
       let both = and_parts (list_all p (reads es f.0 env)) (list_all p (reads es f'.0 env)) (sym (list_all-append p (reads es f.0 env) (reads es f'.0 env)) ∙ h) in
       (f.1 env p look other agree both.0, f'.1 env p look other agree both.1)
 
-  -- likewise, for a quantifier's body, the reads at the first cell of a ball, and those at the other cells
+  -- if all reads of a quantifier's body at a list of cells pass the test, so do its reads at the first cell, and those at the others
   first_cell : (f : Known (Depends es)) (c : Cell) (cs : List Cell) → list_all p (flat_map (λ d. reads es f.0 (env ++ d ∷ [])) (c ∷ cs)) ≡ true →
       (list_all p (reads es f.0 (env ++ c ∷ [])) ≡ true) × (list_all p (flat_map (λ d. reads es f.0 (env ++ d ∷ [])) cs) ≡ true)
   first_cell f c cs h =

@@ -13,7 +13,7 @@ AreSymbols r ss = All (λ s. s < r.symbols) ss
 abbrev pub AreOf : LocalRule → List Cell → Type 0
 AreOf r cs = All (λ c. c.node < r.nodes) cs
 
--- the breaking fillings that begin with the symbols ss, in lexicographic order; the cells in the list are those that have no symbol yet
+-- the breaking fillings that begin with the allowed symbols ss, in lexicographic order; the listed cells are those that have no symbol yet
 abbrev pub extensions : LocalRule → ℕ → List Cell → List ℕ → List (List ℕ)
 extensions r a [] ss = cond (is_true_at_origin r a ss) [] (ss ∷ [])
 extensions r a (c ∷ cs) ss = flat_map (λ s. cond (rule_allows r c.node s) (extensions r a cs (ss ++ s ∷ [])) []) (range_with_len 0 r.symbols)

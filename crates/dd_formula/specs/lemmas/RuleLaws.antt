@@ -32,8 +32,8 @@ truth_by_reads r a u v one other same =
     ∙ (truth_depends r.edges r.formula (origin_at a ∷ []) alike (λ d. one (shifted u d)) (λ d. other (shifted v d)) (λ d. equal_symbols (one (shifted u d)) (other (shifted v d))) same
     ∙ sym (truth_moved_back r v a other))
 
--- The same if `less` gives a symbol to each cell that the rule reads, moved by u, and if `more` has at each cell moved by v the
--- symbol, if any, that `less` has at the same cell moved by u.
+-- The same under two conditions. First, `less` gives a symbol to each cell that the rule reads, moved by u. Second, whenever `less` gives a symbol to
+-- a cell moved by u, `more` gives the same symbol to this cell moved by v.
 pub truth_by_given : (r : LocalRule) (a : ℕ) (u v : Place) (less more : Look) → ((d : Cell) → is_some (less (shifted u d)) ≡ true → less (shifted u d) ≡ more (shifted v d)) →
     list_all (λ d. is_some (less (shifted u d))) (reads_at r a) ≡ true → is_true r (cell u a) less ≡ is_true r (cell v a) more
 truth_by_given r a u v less more same given =

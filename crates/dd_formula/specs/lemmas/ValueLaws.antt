@@ -28,10 +28,10 @@ pub value_composed : (f g : Automaton) (look : Look) (at : Cell) → value (v.Co
 value_composed f g look at =
     ap (λ (h : Valuation). h look at) (ap value (sym (v.rolls-Composed f g)) ∙ fold-roll-Automaton Valuation value_step (Automaton-F.Composed f g))
 
--- moving a cell twice moves it by the sum
 plus_assoc : (x y z : ℤ) → ((x +ℤ y) +ℤ z) ≡ (x +ℤ (y +ℤ z))
 plus_assoc x y z = omega (arith, ints)
 
+-- moving a cell twice moves it by the sum
 pub shifted_twice : (u p : Place) (e : Cell) → shifted u (shifted p e) ≡ shifted (moved p u) e
 shifted_twice u p e = rw (plus_assoc e.position.x p.x u.x, plus_assoc e.position.y p.y u.y, plus_assoc e.position.z p.z u.z) refl
 
@@ -47,11 +47,12 @@ shifted_by_none d = ap (λ p. cell p d.node) (moved_by_none d.position)
 pub equal_values : (x y : ℕ) → x ≡ y → are_equal (Some x) (Some y) ≡ true
 equal_values x y e = eq-eqb y x (sym e)
 
--- The value of an automaton depends only on the symbols of the cells that it reads. If one look-up gives these cells, moved by u, the same symbols as
--- the other gives them moved by w, then the automaton has the same value at u and at w.
+-- the first look-up gives the cell, moved by u, the same symbol as the other gives it moved by w
 abbrev alike : Place → Place → Look → Look → Cell → Bool
 alike u w one other d = are_equal (one (shifted u d)) (other (shifted w d))
 
+-- The value of an automaton depends only on the symbols of the cells that it reads. If one look-up gives these cells, moved by u, the same symbols as
+-- the other gives them moved by w, then the automaton has the same value at u and at w.
 abbrev Depends : Automaton → Type 0
 Depends f = (a : ℕ) (u w : Place) (one other : Look) → list_all (alike u w one other) ((counted f).reads a) ≡ true → value f one (cell u a) ≡ value f other (cell w a)
 
@@ -138,7 +139,6 @@ value_below s = ind-Automaton (IsInside s) (λ x y is fit look c.
     subst (λ n. n < s.symbols) (sym (ap (λ (k : Valuation). k look c) (fold-roll-Automaton Valuation value_step x)))
     (subst (IsInsideLayer s) is (step_inside s y) (sym (fold-roll-Automaton Bool (automaton_fits_step s) x) ∙ fit) look c))
 
--- What a composition reads at the origin is what the second automaton reads at the cells that the first reads.
 seen_moved : (look : Look) (p : Place) (e : Cell) → seen look origin (shifted p e) ≡ seen look p e
 seen_moved look p e =
     ap (λ q. cond (is_in_range q) (look (shifted origin (shifted p e))) None) (moved_by_none (moved e.position p))
@@ -150,6 +150,7 @@ read_there g look c =
     list_all-map (λ d. is_some (seen look origin d)) (shifted c.position) reads
     ∙ list_all-alike (λ e. is_some (seen look origin (shifted c.position e))) (λ e. is_some (seen look c.position e)) (λ e. ap is_some (seen_moved look c.position e)) reads
 
+-- `is_read` holds of a composition at the origin exactly when it holds of the second automaton at each cell that the first one reads
 pub read_by_both : (f g : Automaton) (a : ℕ) (look : Look) → is_read (v.Composed f g) (origin_at a) look ≡ list_all (λ c. is_read g c look) (cells_of f a)
 read_by_both f g a look =
     let there = λ (c : Cell). map (shifted c.position) ((counted g).reads c.node) in

@@ -10,7 +10,7 @@ use Rattle.dd_formula.specs.declared.automaton.Automaton.TheOpen.{Automaton-F}
 use Rattle.dd_formula.specs.lemmas.AutomatonLaws.{counted_given, counted_composed}
 use Rattle.dd_formula.specs.declared.automaton.Automaton.TheVariants as v
 
--- a claim holds of all automata if it holds of each automaton by cases, and of each composition of two automata of which it holds
+-- an automaton, with a proof of a claim about it
 abbrev Known : (Automaton → Type 0) → Type 0
 Known P = (f : Automaton) × P f
 
@@ -21,6 +21,7 @@ step_by_forms : (P : Automaton → Type 0) → ((c : Cases) → P (v.Given c)) �
 step_by_forms P given composed (Automaton-F.Given c) = subst P (sym (v.rolls-Given c)) (given c)
 step_by_forms P given composed (Automaton-F.Composed f g) = subst P (sym (v.rolls-Composed f.0 g.0)) (composed f.0 g.0 f.1 g.1)
 
+-- a claim holds of all automata if it holds of each automaton by cases, and of a composition whenever it holds of both parts
 pub by_forms : (P : Automaton → Type 0) → ((c : Cases) → P (v.Given c)) → ((f g : Automaton) → P f → P g → P (v.Composed f g)) → (f : Automaton) → P f
 by_forms P given composed = ind-Automaton P (λ x y is. subst (λ z. P (roll-Automaton z)) is (step_by_forms P given composed y))
 

@@ -263,7 +263,7 @@ plus_swap a b c = sym (plus_assoc a b c) ∙ (ap (λ (t : Exact). plus t c) (plu
 pub plus_four : (a b c d : Exact) → plus (plus a b) (plus c d) ≡ plus (plus a c) (plus b d)
 plus_four a b c d = plus_assoc a b (plus c d) ∙ (ap (plus a) (plus_swap b c d) ∙ sym (plus_assoc a c (plus b d)))
 
--- a + (-a + b) is b
+-- a + (-a + b) is b in lowest terms
 pub plus_undo : (a b : Exact) → plus a (plus (minus a) b) ≡ low b
 plus_undo a b =
     sym (plus_assoc a (minus a) b) ∙ (ap (λ (t : Exact). plus t b) (plus_minus a) ∙ zero_plus b)

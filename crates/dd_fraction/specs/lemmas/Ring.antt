@@ -9,7 +9,7 @@ use borrow.Author.Differences.{up, down, same_in, sum_is_lem, neg_is, product_is
 pub diff : ℕ → ℕ → ℤ
 diff u v = pos u -ℤ pos v
 
--- the fact about `diff` that the laws below use
+-- the fact about `diff` that the laws below use; the natural numbers `up z` and `down z` have the difference z
 pub diff_parts : (u v : ℕ) → up (diff u v) + v ≡ down (diff u v) + u
 unfolding diff
 diff_parts u v = omega (arith, ints)

@@ -23,22 +23,22 @@ symbol_at k look c below some = by (look c) some (below c)
     by None given low = absurd (cc)
     by (Some t) given low = (t, low, refl)
 
--- an image that doesn't break the rule at a position keeps it at each node there
 both_hold : (a b : Bool) → ((a ≡ false) ⊎ (b ≡ false) → ⊥) → (a ≡ true) × (b ≡ true)
 both_hold true true h = (refl, refl)
 both_hold true false h = absurd (h (inr refl))
 both_hold false b h = absurd (h (inl refl))
 
+-- an image that doesn't break the rule at a position keeps it at each node there
 pub image_keeps : (f : Automaton) (y : LocalRule) (look : Look) (v : Place) → (ImageBreaks f y look v → ⊥) → AtEachNode y.nodes (KeepsAt f y look) v
 image_keeps f y look v unbroken a below = both_hold _ _ (λ broken. unbroken (a, below, broken))
 
--- a composition that changes no symbol gives each symbol back
 same_symbol : (x : ℕ) (o : Option ℕ) (t : ℕ) → o ≡ Some t → ((Some x ≡ o → ⊥) → ⊥) → Some x ≡ o
 same_symbol x o t is h = elim (cases_Bool (x == t)) [
   | inl same ↦ ap Some (eqb-true x t same) ∙ sym is
   | inr other ↦ absurd (h (λ equal. let both : Some x ≡ Some t = equal ∙ is in let one : x ≡ t = cc in absurd (let none : true ≡ false = sym (eq-eqb x t one) ∙ other in cc)))
 ]
 
+-- a composition that changes no symbol gives each symbol back
 pub gives_back : (n k : ℕ) (f g : Automaton) (look : Look) (v : Place) → HasSymbols n k look v → (Changes n f g look v → ⊥) → AtEachNode n (GivesBackAt f g look) v
 gives_back n k f g look v has unchanged a below =
     same_symbol (value f (image g look) (cell v a)) (look (cell v a)) (has a below).0 (has a below).2 (λ changed. unchanged (a, below, changed))

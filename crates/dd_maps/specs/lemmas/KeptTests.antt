@@ -26,13 +26,13 @@ module _ {X : Type 0} (p q : X → Bool) where
   any_kept [] = refl
   any_kept (x ∷ xs) = any_more x xs (any_kept xs) (q x) refl
 
--- every number below n passes or isn't b, exactly when b passes
 ask_one : (q : ℕ → Bool) (b a : ℕ) → q b ≡ true → (not (b == a) || q a) ≡ true
 ask_one q b a h = elim (cases_Bool (b == a)) [
   | inl same ↦ rw (same, ← eqb-true b a same) h
   | inr other ↦ rw other refl
 ]
 
+-- let b be below n: b passes exactly when each number below n passes or isn't b
 pub all_but_one : (q : ℕ → Bool) (b n : ℕ) → b < n → list_all (λ a. not (b == a) || q a) (range_with_len 0 n) ≡ q b
 all_but_one q b n below = by (q b) refl
   where
@@ -40,7 +40,6 @@ all_but_one q b n below = by (q b) refl
     by true h = all_pass (λ a. not (b == a) || q a) (λ a. ask_one q b a h) (range_with_len 0 n) ∙ sym h
     by false h = range_fails (λ a. not (b == a) || q a) n b below (rw (eq-eqb b b refl) h) ∙ sym h
 
--- some number below n passes and is t, exactly when t passes
 ask_none : (q : ℕ → Bool) (t a : ℕ) → q t ≡ false → (q a && (t == a)) ≡ false
 ask_none q t a h = elim (cases_Bool (t == a)) [
   | inl same ↦ rw (← eqb-true t a same, h) refl
@@ -51,6 +50,7 @@ ask_none q t a h = elim (cases_Bool (t == a)) [
     and_false true = refl
     and_false false = refl
 
+-- let t be below n: t passes exactly when some number below n passes and is t
 pub some_one : (q : ℕ → Bool) (t n : ℕ) → t < n → list_any (λ a. q a && (t == a)) (range_with_len 0 n) ≡ q t
 some_one q t n below = by (q t) refl
   where

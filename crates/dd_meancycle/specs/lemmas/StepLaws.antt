@@ -28,7 +28,7 @@ step_at g u t v false false p q h = absurd (cc)
 pub step : (g : Transfer) (u t v : ℕ) → next_of g u t ≡ Some v → Step g u t v
 step g u t v h = step_at g u t v (nat_lt u g.states) (nat_lt t g.slices) refl refl h
 
--- the number of a state's last slice is the state's number modulo the number of slices
+-- if n is a multiple of s, a number and its remainder modulo n have the same remainder modulo s
 mod_of_multiple : (x s n : ℕ) → 0 < s → 0 < n → n % s ≡ 0 → x % n % s ≡ x % s
 mod_of_multiple x s n some more h =
     let q = x / n in
@@ -42,6 +42,7 @@ mod_of_multiple x s n some more h =
     let small : r < s = mod_below (x % n) s some in
     sym (ap (λ (z : ℕ). z % s) all ∙ mod-mul-add (q * k + j) s r small)
 
+-- the slice of an edge is the last slice of the state v to which it leads: its number is v modulo the number of slices
 pub last_slice : (g : Transfer) (u t v : ℕ) → IsTransfer g → next_of g u t ≡ Some v → v % g.slices ≡ t
 last_slice g u t v well h =
     let s = step g u t v h in

@@ -107,7 +107,7 @@ pub record IsReduced (mean r : Ratio) : Type 0 where
   pub short : r.length ≤ mean.length
   pub light : r.weight ≤ mean.weight
 
--- h is the height of v: the greatest number of edges, below `last`, of a walk to v
+-- h is the height of v: the greatest k below `last` such that a walk of k edges leads to v
 pub record IsHeight (levels : List (List (Option ℕ))) (last v h : ℕ) : Type 0 where
   pub below : h < last
   pub here : is_some (level_weight_at levels h v) ≡ true

@@ -17,6 +17,7 @@ abbrev pub edges_weight : List Edge → ℕ
 edges_weight [] = 0
 edges_weight (e ∷ es) = e.weight + edges_weight es
 
+-- the potential of the state v, or its rank if ps lists ranks
 abbrev pub natural_potential : List ℕ → ℕ → ℕ
 natural_potential ps v = slice_index_or ps v 0
 

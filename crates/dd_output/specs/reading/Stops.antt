@@ -58,7 +58,7 @@ abbrev pub goes_on : ℕ → ℕ → ℕ → Bool
 goes_on bound n b = is_digit b && (nat_lt 0 n && nat_le (n * 10 + (b - 48)) bound)
 
 -- A number and the byte that ends it, which is `end` or `other`. The digits that were read before have the value n. For each
--- number, `after` gives the least text that has to follow the number and that byte.
+-- number, `after` gives the least text that has to follow the number and the byte `end`.
 abbrev pub digits_at : ℕ → ℕ → ℕ → (ℕ → List ℕ) → ℕ → List ℕ → Read (ℕ × ℕ)
 digits_at bound end other after n [] = Err (stop [] (end ∷ after n))
 digits_at bound end other after n (b ∷ bytes) =
@@ -66,7 +66,7 @@ digits_at bound end other after n (b ∷ bytes) =
     (cond (goes_on bound n b) (digits_at bound end other after (n * 10 + (b - 48)) bytes)
     (Err (stop (b ∷ bytes) (end ∷ after n))))
 
--- the byte can be the first digit of a number
+-- the byte can be the first digit of a number from `low`, which is 0 or 1, to `bound`
 abbrev pub starts : ℕ → ℕ → ℕ → Bool
 starts low bound b = is_digit b && (nat_le low (b - 48) && nat_le (b - 48) bound)
 
@@ -110,7 +110,7 @@ pub data Entry (A B : Type 0) : Type 0 where
   item : A → Entry A B
   last : B → Entry A B
 
--- what follows an entry: if it is an item, `more` reads further entries
+-- the entries from a given one on: if it is an item, `more` reads those after it
 abbrev pub next_at : {A B : Type 0} → (List ℕ → Read (List A × B)) → Entry A B × List ℕ → Read (List A × B)
 next_at more (item x, rest) = more rest >>= λ o. Ok ((x ∷ o.0.0, o.0.1), o.1)
 next_at more (last y, rest) = Ok (([], y), rest)

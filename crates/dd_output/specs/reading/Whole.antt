@@ -14,7 +14,7 @@ answer_entry_of a = item a
 abbrev pub query_text : ℕ → List ℕ
 query_text k = codes "query " ++ (decimal (suc k) ++ codes " ")
 
--- The answer with index k, from 0, or the end. Here k is less than the number of answers that an output may have. 113 is the q of
+-- The answer with index k, from 0, or the end. Here k is less than the greatest number of answers that an output may have. 113 is the q of
 -- `query`.
 unfoldable pub open_entry : ℕ → List ℕ → Read (Entry Answer (Unit {0}))
 open_entry k = choice_at 113

@@ -1,4 +1,4 @@
--- When periods are equal.
+-- Periods are equal if their parts are equal, or if they compare equal.
 use Rattle.dd_pattern.specs.{declared.periods.Periods.Periods, Periods.periods_cmp, Periods.periods_volume}
 use Rattle.std.proofs.{Common.ℕ, Common.◌≡◌, lemmas.Map.Lookups.exact_unsigned}
 use Rattle.dd_values.specs.lemmas.Booleans.{both_equal}

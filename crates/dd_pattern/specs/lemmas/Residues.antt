@@ -58,7 +58,7 @@ meets x n h =
       divided = quotient_is x n (unsigned_abs x) p.0 h p.1;
     }
 
--- adding n to x k times keeps the residue
+-- adding k times n to x keeps the residue
 pub residue_added : (x : ℤ) (n k : ℕ) → 0 < n → residue (x +ℤ pos (k * n)) n ≡ residue x n
 residue_added x n k h =
     let p = raised x n h in
@@ -67,7 +67,7 @@ residue_added x n k h =
     let more : (x +ℤ pos (k * n)) +ℤ pos (a * n) ≡ pos (p.0 + k * n) = omega (arith, ints) in
     residue_is (x +ℤ pos (k * n)) n a (p.0 + k * n) h more ∙ (add-mul-mod_self_right p.0 k n ∙ sym (residue_is x n a p.0 h whole))
 
--- adding n to x k times adds k to the quotient
+-- adding k times n to x adds k to the quotient
 pub quotient_added : (x : ℤ) (n k : ℕ) → 0 < n → quotient (x +ℤ pos (k * n)) n ≡ quotient x n +ℤ pos k
 quotient_added x n k h =
     let p = raised x n h in

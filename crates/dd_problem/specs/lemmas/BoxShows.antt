@@ -57,10 +57,10 @@ admissible_from_holds x n look filling holds v a flat node fit =
     filter_at (λ d. is_true x d look) (fits_in (box_layout x n) x) (box_cells x n) (box_index x n c) c holds (box_cell_there x n c here)
     (list_all_weaker (λ d. is_some (look (shifted v d))) (λ d. is_box_cell x n (shifted v d)) (λ d h. sym (filling.domain (shifted v d)) ∙ h) (reads_at x a) both.1)
 
--- the look-up that a list of symbols gives is a filling of the box
 some_within : (symbols : List ℕ) (i : ℕ) → i < length symbols → is_some (slice_get symbols i) ≡ true
 some_within symbols i h = ap is_some (slice_get-get_or symbols i 0 h)
 
+-- the look-up that a list of symbols gives is a filling of the box
 pub look_is_filling : (x : LocalRule) (n : ℕ) (symbols : List ℕ) → AreSymbols x (box_cells x n) symbols → IsBoxFilling x n (layout_look (box_layout x n) symbols)
 look_is_filling x n symbols ok = record {
   domain = λ c.
@@ -69,10 +69,10 @@ look_is_filling x n symbols ok = record {
   allowed = look_allowed (box_layout x n) x symbols (box_is_layout x n) ok;
 }
 
--- the symbols of a filling, by the cells' numbers
 abbrev symbol_or_zero : Look → Cell → ℕ
 symbol_or_zero look c = unwrap_or (look c) 0
 
+-- the symbols of a filling, by the cells' numbers
 abbrev pub symbols_of : LocalRule → ℕ → Look → List ℕ
 symbols_of x n look = map (symbol_or_zero look) (box_cells x n)
 

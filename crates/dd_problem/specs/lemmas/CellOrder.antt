@@ -1,4 +1,4 @@
--- The cells of a box of positions, and their indices in the list, which ascends.
+-- The list of the cells of a box of positions: which cell has which index, and that the list ascends in cell order.
 use Rattle.std.proofs.Common.{◌≡◌, ℕ, zero, suc, ◌+◌, ◌*◌, ◌/◌, ◌%◌, ◌<◌, ◌≤◌, [], ◌∷◌, ◌++◌, map, length, get_or, refl, ap, sym, subst, ◌∙◌, arith, Some, inl, inr, length-append}
 use Rattle.std.proofs.lemmas.Bool.{cases_order, cases_lt}
 use Rattle.std.proofs.lemmas.Nat.{mul-add-lt, div-mul-add, mod-mul-add, mod_below, div_below, div-add-mod'}
@@ -30,11 +30,11 @@ sorted_range R f (suc n) a h = (
   sorted_range R f n (a + 1) (λ i j less high. h i j less (omega arith)),
 )
 
--- the positions of a box by their numbers
 length-first_of : (b : Bounds) (n : ℕ) → length (first_positions b n) ≡ n
 length-first_of b zero = refl
 length-first_of b (suc n) = omega (arith, length-first_of b n, length-append (first_positions b n) (place_in b n ∷ []))
 
+-- the positions of a box by their numbers
 first_at : (b : Bounds) (n i : ℕ) (d : Place) → i < n → get_or (first_positions b n) i d ≡ place_in b i
 first_at b zero i d h = absurd (omega arith)
 first_at b (suc n) i d h = elim (cases_lt i n) [

@@ -12,10 +12,10 @@ use Rattle.dd_problem.specs.lemmas.{Growing.part_gates-append, CellOrder.length-
 use Rattle.dd_problem.specs.lemmas.GateCounts.{at_cell, premise_gates, goal_gates}
 use Rattle.dd_problem.specs.lemmas.CellTotals.{cells_total}
 
--- a cell has at least as many clauses as inputs
 half : (n : ℕ) → n / 2 * 2 + n % 2 ≡ n
 half n = div-add-mod' n 2
 
+-- a cell has at least as many clauses as inputs
 symbols_below : (s : ℕ) → s ≤ cell_clause_count s
 symbols_below zero = omega arith
 symbols_below (suc zero) = omega arith

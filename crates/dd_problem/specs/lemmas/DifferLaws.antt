@@ -59,7 +59,6 @@ signals_say set (s ∷ ss) v j (suc k) long says =
     one_on : (a t : ℕ) → a + suc t ≡ a + 1 + t
     one_on a t = omega arith
 
--- two values are apart at some symbol exactly when they are different
 none_later : (u v j k : ℕ) → u < j → list_any (λ b. b) (each_apart (is_value u j k) (is_value v j k)) ≡ false
 none_later u v j zero h = refl
 none_later u v j (suc k) h =
@@ -73,6 +72,7 @@ or_none : (a b : Bool) → b ≡ false → ((true && a) || b) ≡ a
 or_none true b h = refl
 or_none false b h = h
 
+-- if the first of two values is one of the symbols, they are apart at some symbol exactly when they are different
 apart_at : (u v j k : ℕ) → j ≤ u → u < j + k → list_any (λ b. b) (each_apart (is_value u j k) (is_value v j k)) ≡ not (u == v)
 apart_at u v j zero low high = absurd (omega arith)
 apart_at u v j (suc k) low high =
@@ -128,7 +128,7 @@ module _ (k : ℕ) (f g : Automaton) (w : Wiring) (at : Cell) (n : ℕ) where
         from_zero : (t : ℕ) → t ≡ 0 + t
         from_zero t = omega arith
 
-    -- these gates are over earlier variables
+    -- each gate that tells the values apart is over earlier variables
     pub differ_fits : AreGates n (differ_made k f g w at n).gates
     differ_fits =
         let so_far = AreGates-append n left right first.gates next.gates in

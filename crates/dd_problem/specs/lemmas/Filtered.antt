@@ -16,7 +16,7 @@ pub some_same : {A : Type 0} (a b : A) → Some a ≡ Some b → a ≡ b
 some_same a b h = cc
 
 module _ {X : Type 0} where
-  -- a filtered list passes a test exactly when each member of the whole list that passes the filter passes the test
+  -- all members of a filtered list pass a test exactly when the test holds for each member of the whole list that the filter keeps
   filter_step : (p : X → Bool) (d : X) (b : Bool) (rest : List X) → (b ≡ true → p d ≡ true) → list_all p rest ≡ true → list_all p (cond b (d ∷ rest) rest) ≡ true
   filter_step p d true rest here there = rw (here refl, there) refl
   filter_step p d false rest here there = there

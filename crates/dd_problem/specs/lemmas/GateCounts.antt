@@ -45,7 +45,6 @@ node_gates l m y (a ∷ nodes) n =
     let all = length-append gs (all_made (map (λ b. place_maker l m y (cell origin b)) nodes) (n + length gs)).gates in
     omega (arith, here, below, rest, all)
 
--- the gates that tell two values apart
 value_signals : (k : ℕ) (f : Automaton) (w : Wiring) (at : Cell) (n : ℕ) → length (value_made k f w at n).signals ≡ k
 value_signals k =
     by_forms (λ f. (w : Wiring) (at : Cell) (n : ℕ) → length (value_made k f w at n).signals ≡ k)
@@ -57,6 +56,7 @@ apart_few [] ys = omega arith
 apart_few (x ∷ xs) [] = omega arith
 apart_few (x ∷ xs) (y ∷ ys) = let rest = apart_few xs ys in omega (arith, rest)
 
+-- the gates that tell two values apart
 two_values : (k : ℕ) (f g : Automaton) (w : Wiring) (at : Cell) (n : ℕ) → length (differ_made k f g w at n).gates ≤ differ_at k f g at.node
 two_values k f g w at n =
     let first = value_made k f w at n in

@@ -40,7 +40,7 @@ pairs_step all now new w end h so_far pushed =
     let rest = range_to (w + 1) end in
     so_far ∙ (ap (λ r. now ++ pairs r) (range_step w end h) ∙ rw pushed (sym (append_assoc now (map (λ o. literal w false ∷ literal o false ∷ []) rest) (pairs rest))))
 
--- the literals of a range are in range
+-- if a range of variables lies in 1..n, their literals are in range
 pub range_in_range : (n from k : ℕ) → 1 ≤ from → from + k ≤ n + 1 → All (IsLiteralInRange n) (map (λ v. literal v true) (range_with_len from k))
 range_in_range n from zero low high = λ i d h. absurd (omega arith)
 range_in_range n from (suc k) low high =
@@ -62,7 +62,7 @@ range_moved j (suc n) a =
 pub inputs_range : (m k : ℕ) → inputs_of m k ≡ range_with_len (k * m + 1) m
 inputs_range m k = range_moved (k * m) m 0 ∙ ap (λ b. range_with_len b m) (let e : suc (k * m + 0) ≡ k * m + 1 = omega arith in e)
 
--- the clauses of one cell, from those of its parts
+-- the clauses of one cell: that it has some symbol, that it has no two symbols, and that it has no symbol that its node does not allow
 pub cell_parts : (x : LocalRule) (k node from end : ℕ) (all now some both new : List (List Literal)) → from ≡ k * x.symbols + 1 → end ≡ from + x.symbols → now ≡ all →
     some ≡ now ++ map (λ v. literal v true) (range_to from end) ∷ [] → both ≡ some ++ pairs (range_to from end) → new ≡ both ++ none_of x.symbols k (disallowed x node) →
     new ≡ all ++ symbol_clauses x k node

@@ -65,7 +65,7 @@ cell_there [] k h = absurd (omega arith)
 cell_there (c ∷ cells) zero h = (c, refl)
 cell_there (c ∷ cells) (suc k) h = cell_there cells k (omega arith)
 
--- the one true input tells which of the inputs are true
+-- an input of a cell is true exactly when it is that of the cell's symbol
 hot_input : (set : ℕ → Bool) (m k s : ℕ) → is_satisfied set (one_hot (inputs_of m k)) ≡ true → s < m → set (input m k s) ≡ (read_symbol set m k == s)
 hot_input set m k s hot below =
     let vs = inputs_of m k in
@@ -138,7 +138,6 @@ cond_below false o n h = tt
 pub look_below : (l : Layout) (m : ℕ) (symbols : List ℕ) → All (λ s. s < m) symbols → HasSymbolsBelow m (layout_look l symbols)
 look_below l m symbols all c = cond_below (l.has c) (slice_get symbols (l.index c)) m (symbol_below m symbols (l.index c) _ all refl)
 
--- if the symbols in the list are allowed, so are those of the layout's look-up
 pub slice_of_read : (symbols : List ℕ) (k s : ℕ) → slice_get symbols k ≡ Some s → get_or symbols k 0 ≡ s
 slice_of_read symbols k s is = get_or_from_slice_get symbols k s 0 is
 
@@ -151,6 +150,7 @@ allowed_at l x symbols ok are c true has (Some s) is =
     ap (rule_allows x c.node) (sym (slice_of_read symbols (l.index c) s is))
     ∙ (ap (λ a. rule_allows x a (get_or symbols (l.index c) 0)) (sym there.2) ∙ are.allowed (l.index c) there.0 there.1)
 
+-- if the symbols in the list are allowed, so are those of the layout's look-up
 pub look_allowed : (l : Layout) (x : LocalRule) (symbols : List ℕ) → IsLayout l → AreSymbols x l.places symbols → AreAllowed x (layout_look l symbols)
 look_allowed l x symbols ok are c = allowed_at l x symbols ok are c (l.has c) refl (slice_get symbols (l.index c)) refl
 

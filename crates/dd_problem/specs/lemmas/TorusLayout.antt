@@ -28,7 +28,7 @@ pub torus_is_tile : (x : LocalRule) (periods : Periods) (symbols : List ℕ) →
 torus_is_tile x periods symbols rule ok full =
     record { some_dimension = rule.dimension.0; most_dimension = rule.dimension.1; periods = ok.periods; nodes_some = rule.nodes.0; full = full }
 
--- a configuration with as many symbols as the torus has cells is periodic
+-- as many symbols as the torus has cells define a periodic configuration that code can hold
 pub torus_is_periodic : (x : LocalRule) (periods : Periods) (symbols : List ℕ) → IsRule x → AreTorusPeriods x.dimension x.nodes periods → length symbols ≡ torus_size x periods →
     IsPeriodic (torus_of x periods symbols)
 torus_is_periodic x periods symbols rule ok full = record {
@@ -109,7 +109,6 @@ module _ (x : LocalRule) (periods : Periods) (rule : IsRule x) (ok : AreTorusPer
       let here = place_is_cell k d is in
       ap (tile_index (torus x periods)) here.1 ∙ index_of_cell (torus_of x periods (zeros x periods)) blank k here.0
 
-  -- each cell of the torus lies in Z^d
   flat_axis : (active : Bool) (p : ℤ) (n : ℕ) → (active ≡ false → n ≡ 1) → 0 < n → pos (residue p n) ≡ p → (active || int_eq p (pos 0)) ≡ true
   flat_axis true p n unused some base = refl
   flat_axis false p n unused some base =
@@ -117,6 +116,7 @@ module _ (x : LocalRule) (periods : Periods) (rule : IsRule x) (ok : AreTorusPer
       let small = residue_below p n some in
       (Decides-int_eq p (pos 0)).1 (let zero_there : residue p n ≡ 0 = omega arith in sym base ∙ ap pos zero_there)
 
+  -- each cell of the torus lies in Z^d
   pub flat_place : (k : ℕ) (d : Cell) → slice_get (torus_cells x periods) k ≡ Some d → is_flat x.dimension d.position ≡ true
   flat_place k d is =
       let base = (torus_cell_at k d is).base in

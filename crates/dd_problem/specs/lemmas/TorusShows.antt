@@ -23,10 +23,10 @@ use Rattle.dd_problem.specs.lemmas.Filtered.{filter_all, filter_at}
 use Rattle.dd_problem.specs.lemmas.Wiring.{goal_from_test, test_from_goal, HasReads, wired_layout}
 use Rattle.dd_problem.specs.lemmas.TorusLayout.{torus_of, torus_size, length-torus_cells, torus_is_tile, torus_is_layout, torus_cell_there, torus_cell_at, torus_index_at, flat_place, look_periodic}
 
--- a rule reads only cells whose nodes exist
 node_of : (r : LocalRule) (c : Cell) → is_of r c ≡ true → nat_lt c.node r.nodes ≡ true
 node_of r c h = (and_parts (is_flat r.dimension c.position) (nat_lt c.node r.nodes) h).1
 
+-- a rule reads only cells whose nodes exist
 pub reads_nodes : (r : LocalRule) (a : ℕ) → IsRule r → a < r.nodes → list_all (λ c. nat_lt c.node r.nodes) (reads_at r a) ≡ true
 reads_nodes r a ok node = list_all_weaker (is_of r) (λ c. nat_lt c.node r.nodes) (node_of r) (reads_at r a) (ok.placed a node)
 

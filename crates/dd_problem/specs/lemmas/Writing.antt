@@ -27,7 +27,7 @@ use Rattle.dd_problem.specs.lemmas.ValueWires.{AreValuesWired, GoalWired, differ
 use Rattle.dd_problem.specs.lemmas.Parted.{has_input, differ_at, reads_inputs, goal_reads, jobs, job_part, job_reads, parts_by_jobs, parts_say}
 use Rattle.dd_problem.specs.lemmas.Reading.{IsLayout, IsWired, Stands, told_by_inputs, look_below}
 
--- whether the variable v, an input over m symbols, is the one for the symbol that its cell has in the list
+-- whether the input v is that of its cell's symbol in the list; each cell has m inputs
 abbrev pub guess : List ℕ → ℕ → ℕ → Bool
 guess symbols m v = is_symbol ((v - 1) % m) (slice_get symbols ((v - 1) / m))
 
@@ -87,10 +87,10 @@ cells_written set x cells symbols ok read =
     subst (λ j. is_satisfied set (symbol_clauses x j d.node) ≡ true) here
     (list_all-append (is_clause_true set) (one_hot (inputs_of m k)) (none_of m k (disallowed x d.node)) ∙ and_from _ _ hot none)))
 
--- the gates of the parts are over the inputs and earlier gates
 pub input_in_range : (k s m n : ℕ) → k < n → s < m → (1 ≤ input m k s) × (input m k s ≤ n * m)
 input_in_range k s m n h l = let below = within_inputs k s m n h l in (omega arith, omega arith)
 
+-- the gates of the parts are over the inputs and earlier gates
 place_fits : (l : Layout) (m : ℕ) (r : LocalRule) (d : Cell) (n : ℕ) → IsLayout l → length l.places * m ≤ n → reads_inputs l m r d ≡ true → AreGates n (place_maker l m r d n).gates
 place_fits l m r d n ok le wired =
     (made_fits (expansion_at r d.node) (wire l m d.position) (has_input l m d.position) (length l.places * m) n

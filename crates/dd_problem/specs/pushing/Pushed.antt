@@ -1,5 +1,4 @@
--- The clauses of a box question over any inputs, as the code makes them. At each node a rule has an expansion, a formula without
--- variables. A leaf of the rule is a leaf of this formula: it says that a cell has a symbol.
+-- The clauses of a box question over any inputs, as the code makes them.
 use Rattle.std.specs.Prelude.{ℕ, ◌+◌, ◌*◌, ◌≡◌, ◌&&◌, Bool, true, List, [], ◌∷◌, ◌++◌, map, length, Some}
 use Rattle.std.specs.List.{list_all, filter, range_with_len}
 use Rattle.dd_lattice.specs.{Place.Place, Cells.cell, declared.position.Cell.Cell}
@@ -13,7 +12,7 @@ use Rattle.dd_boxes.specs.{Goals.GoalOf, Goals.breaks, Goals.differ, Goals.alway
 use Rattle.dd_problem.specs.Differing.{differ_made}
 use Rattle.dd_problem.specs.Clauses.{cell_clauses, Part, part_gates, part_clauses, units, some_true, some_false}
 
--- each signal is one of the first n variables
+-- the variable of each signal is one of the first n
 abbrev pub AreInputs : ℕ → Wiring → Type 0
 AreInputs n w = (c : Cell) (s : ℕ) (signal : Signal) → wire_of w c s ≡ Some signal → IsSignal n signal
 
@@ -21,7 +20,7 @@ AreInputs n w = (c : Cell) (s : ℕ) (signal : Signal) → wire_of w c s ≡ Som
 abbrev pub HasAllSymbols : ℕ → Wiring → Type 0
 HasAllSymbols m w = (c : Cell) (signals : List Signal) → signals_of w c ≡ Some signals → length signals ≡ m
 
--- each leaf of the rule at the cell has its signal, and this is one of the first n variables
+-- the rule is wired at the cell: each of its leaves there has its wire, whose variable is one of the first n
 abbrev pub is_wired_at : Wiring → ℕ → LocalRule → Cell → Bool
 is_wired_at w n x d = are_wired n (wires_near w d.position) (expansion_at x d.node)
 
@@ -29,7 +28,7 @@ is_wired_at w n x d = are_wired n (wires_near w d.position) (expansion_at x d.no
 abbrev pub wired_part : Wiring → LocalRule → Cell → Part
 wired_part w x d = record { makers = compiled w d.position (expansion_at x d.node) ∷ []; tail = units }
 
--- the premise is true at each of the cells where each of its leaves has its signal
+-- the premise is true at each of the cells where it is wired
 abbrev pub wired_parts : Wiring → ℕ → LocalRule → List Cell → List Part
 wired_parts w n x cells = map (wired_part w x) (filter (is_wired_at w n x) cells)
 
@@ -47,12 +46,12 @@ wired_goal w (breaks y) = broken_part w y origin
 wired_goal w (differ s f g) = differ_part w s f g
 wired_goal w always = record { makers = []; tail = λ _. [] }
 
--- each cell that either automaton reads at the node a of the origin has its signals
+-- each cell that either automaton reads at the node a of the origin has its signals, whose variables are among the first n
 abbrev pub are_both_wired : Wiring → ℕ → CommonNumbers → Automaton → Automaton → ℕ → Bool
 are_both_wired w n s f g a =
     are_wired_there n s.symbols w ((counted f).reads a) (cell origin a) && are_wired_there n s.symbols w ((counted g).reads a) (cell origin a)
 
--- all that the goal reads at the origin has its signals
+-- the goal is wired: all that it reads at the origin has its signals, whose variables are among the first n
 abbrev pub is_goal_wired : Wiring → ℕ → GoalOf → Bool
 is_goal_wired w n (breaks y) = list_all (λ a. is_wired_at w n y (cell origin a)) (range_with_len 0 y.nodes)
 is_goal_wired w n (differ s f g) = list_all (are_both_wired w n s f g) (range_with_len 0 s.nodes)

@@ -1,4 +1,4 @@
--- Vectors whose entries are at most 4 in absolute value are offsets of edges.
+-- Vectors with an entry for each axis, none of them over 4 in absolute value, are offsets of edges.
 use Rattle.std.proofs.Common.{◌≡◌, ◌≤◌, ℕ, true, false, List, Option, Some, None, length, refl, subst, arith}
 use Rattle.std.proofs.lemmas.Bool.{eqb-true, ltb-false, lt-ltb, le-leb, and_from}
 use Rattle.std.proofs.lemmas.{Int.ints, Option.slice_get_within, Map.Keys.any_passes_from_place}

@@ -1,5 +1,5 @@
--- The formula of each place says that the rule is true there. At each place where one more symbol makes the rule fit, the rule is
--- given.
+-- The formula of each place says that the rule is true there. At each place where one more symbol makes the rule fit, the rule is given: each cell
+-- that it reads is in range and has a symbol.
 use Rattle.std.proofs.Common.{◌≡◌, ◌<◌, ◌+◌, ℕ, Bool, true, false, cond, List, [], ◌∷◌, ◌++◌, length, get_or, take, Some, None, Result, Ok, Err, IfOk, refl, sym, ◌∙◌, ap, subst, arith}
 use Rattle.std.proofs.{Math.Path.fun_ext, lemmas.Bool.eqb-true, lemmas.Bool.lt-ltb, lemmas.List.take_more, lemmas.List.length-take-le}
 use Rattle.std.proofs.lemmas.{List.Folds.list_all-append, Option.slice_get_past}

@@ -117,7 +117,7 @@ same_truth x all j ss s d size fits =
     keeps_at x look more d.position d.position d.node (λ c h. same_symbol all j ss s (shifted d.position c) size h)
     (and_parts (is_some (look d)) (list_all (λ e. is_some (look (shifted d.position e))) (reads_at x d.node)) fits).1
 
--- where the rule fits, the rule is given
+-- where the rule fits, the rule is given: each cell that it reads is in range and has a symbol
 seen_some : (near : Bool) (o : Option ℕ) → near ≡ true → is_some o ≡ true → is_some (cond near o None) ≡ true
 seen_some true o h some = some
 seen_some false o h some = absurd (false≢true h)

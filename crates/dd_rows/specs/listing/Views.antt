@@ -27,7 +27,7 @@ pub record AreViews (x : LocalRule) (radius : ℕ) (vs : List Place) (cs : List 
   pub origin : v.origin ≡ view_of cs (box_cells x radius) origin
   pub givers : v.givers ≡ givers_of cs (box_cells x radius) vs
 
--- the symbols of the cells with these numbers
+-- the symbols of the cells with these numbers, with 0 for a number past the end of ss
 abbrev pub symbols_at : List ℕ → List ℕ → List ℕ
 symbols_at ss numbers = map (λ i. unwrap_or (slice_get ss i) 0) numbers
 

@@ -21,7 +21,7 @@ pub record Judged (old new : Option (List ℕ)) (s : Parts) (answers : List Answ
   pub judged : IsJudged s answers number accepted
   pub appends : Appends old new (verdict_line number accepted)
 
--- A prefix of that line was written.
+-- A prefix of the line for the query with this number was written.
 pub data JudgedFront (old new : Option (List ℕ)) (s : Parts) (answers : List Answer) (number : ℕ) : Type 0 where
   nothing : GainsFront old new [] → JudgedFront old new s answers number
   part : (accepted : Bool) → IsJudged s answers number accepted → GainsFront old new (verdict_line number accepted) → JudgedFront old new s answers number
@@ -46,18 +46,17 @@ pub record AcceptedAll (old new : Option (List ℕ)) (s : Parts) (answers : List
   pub all : AllAccepted s answers
   pub appends : Appends old new (accepted_lines (length answers) ++ checked_line (length answers))
 
--- What was written, apart from the line `checked`. That line comes last if all answers are accepted. The truth value says whether
--- they are.
+-- What was written, apart from the line `checked`. If nothing is rejected, the truth value is true and that line comes last.
 abbrev pub EachJudged : Option (List ℕ) → Option (List ℕ) → Parts → List Answer → Bool → Type 0
 EachJudged old new s answers true = AcceptedEach old new s answers
 EachJudged old new s answers false = RejectedHere old new s answers
 
--- all that was written; the truth value says whether all answers are accepted
+-- all that was written; the truth value says whether the check rejected nothing
 abbrev pub AllJudged : Option (List ℕ) → Option (List ℕ) → Parts → List Answer → Bool → Type 0
 AllJudged old new s answers true = AcceptedAll old new s answers
 AllJudged old new s answers false = RejectedHere old new s answers
 
--- The status of a check that came to its end. The truth values say whether all answers are accepted, and whether some answer is UNKNOWN.
+-- The status of a check that came to its end. The truth values say whether it rejected nothing, and whether some answer is UNKNOWN.
 abbrev pub checked_status : Bool → Bool → Status
 checked_status true has = status_of has
 checked_status false has = Rejected

@@ -40,7 +40,7 @@ abbrev pub IsRatioOf : List Line → ℕ → Exact → Option ℕ → Type 0
 IsRatioOf lines e a None = a ≡ a
 IsRatioOf lines e a (Some r) = a ≡ line_ratio lines e r
 
--- for each of the first n lines that limits the entering variable, the numbers of its ratio fit
+-- if one of the first n lines limits the entering variable, the numbers of its ratio fit
 abbrev pub DoRatiosFit : List Line → ℕ → ℕ → Type 0
 DoRatiosFit lines e n =
     (i : ℕ) → i < n → does_limit lines e i ≡ true

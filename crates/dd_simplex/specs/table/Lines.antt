@@ -12,7 +12,7 @@ pub record Line : Type 0 where
   pub bound : Exact
   pub cells : List Exact
 
--- the lines of the basic variables, and the objective value + Σ cost · other
+-- the lines of the basic variables, the nonbasic variables, and the objective, which is equal to value + Σ cost · other
 pub record Table : Type 0 where
   pub lines : List Line
   pub others : List ℕ

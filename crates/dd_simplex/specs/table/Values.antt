@@ -13,7 +13,7 @@ column_so_far line d i j = cond (d.is_basic j && nat_lt (line j) i) (d.bound j) 
 abbrev pub dual_so_far : (ℕ → ℕ) → Dictionary → ℕ → ℕ → Exact
 dual_so_far column d i w = cond (not (d.is_basic w) && nat_lt (column w) i) (minus (d.cost w)) zero_of
 
--- the values that the first i lines give to the columns, for any dictionary that the lines stand for
+-- the values that the first i lines give to the columns, for any dictionary that a table with these lines stands for
 pub record GiveColumns (lines : List Line) (columns i : ℕ) (values : List Exact) : Type 0 where
   pub size : length values ≡ columns
   pub each : (n : ℕ) (t : Table) (d : Dictionary) (s : StandsFor n t d) → t.lines ≡ lines → columns ≤ n

@@ -3,7 +3,7 @@ use Rattle.std.specs.Prelude.{◌≡◌, ℕ, suc, ◌+◌, ◌-◌, ◌<◌, �
 use Rattle.dd_derivation.specs.declared.step.Step.{Step}
 use Rattle.dd_solver.specs.Trimming.{is_hint}
 
--- some marked step that stands at `place` or later, and after j, has a hint that names the step at j, whose number is `number`
+-- some marked step has the hint `number`, which is the number of the step at j; the marked step stands after j, and at `place` or later
 pub record IsNeeded (place j number : ℕ) (steps : List Step) (marked : List Bool) : Type 0 where
   pub at : ℕ
   pub from : place ≤ at

@@ -34,8 +34,8 @@ abbrev pub is_derived : ℕ → List (Option (List Literal)) → List Step → B
 is_derived n before [] = true
 is_derived n before (s ∷ steps) = is_right n before s && is_derived n (after_step before s) steps
 
--- The invariant of the search. The variables of the known clauses are in range. The clauses of the list are all known. Each entry of the trail was
--- decided, or a known clause forces it. The steps are right.
+-- The invariant of the search. The variables of the known clauses are in range. The clauses of the list are all known. The trail's variables are
+-- distinct and in range, and each entry was decided or is forced by a known clause. The steps are right.
 pub record IsSearch (s : State) : Type 0 where
   pub in_range : AreInRange s.variables (known s)
   pub given : (h : ℕ) (c : List Literal) → clause_of (all_known s.clauses) h ≡ Some c → clause_of (known s) h ≡ Some c

@@ -23,7 +23,7 @@ at_falses [] k d h = absurd (omega arith)
 at_falses (e ∷ trail) zero d h = in_here (falses trail) (negation e.literal)
 at_falses (e ∷ trail) (suc k) d h = or_right _ _ (at_falses trail k d (omega arith))
 
--- the same for the first j entries
+-- a literal that the first j entries make false is the negation of the literal of one of them
 pub in_falses_take : (trail : List Entry) (j : ℕ) (x : Literal) → j ≤ length trail → In (falses (take j trail)) x → (k : ℕ) × (k < j) × ((d : Entry) → negation (get_or trail k d).literal ≡ x)
 in_falses_take trail j x l h =
     let r = in_falses (take j trail) x h in

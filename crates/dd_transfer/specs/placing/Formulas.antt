@@ -7,7 +7,8 @@ use Rattle.dd_formula.specs.LocalRule.{LocalRule, is_true, rule_allows}
 use Rattle.dd_strip.specs.{declared.strip.Strip.Strip, Strips.cells}
 use Rattle.dd_transfer.specs.Windows.{cell_at, stand, window_index, window_look}
 
--- the place of a cell among a window's symbols, or none if the cell is to the left of the window or there is no such node
+-- the place of a cell among a window's symbols, past the last one if the cell is to the right of the window; none if the cell is to the left of the
+-- window or there is no such node
 abbrev pub window_numbers : Strip → Numbering
 window_numbers s c = cond (int_le (pos 0) c.position.x && nat_lt c.node s.nodes) (Some (window_index s c)) None
 

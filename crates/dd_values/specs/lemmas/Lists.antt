@@ -17,7 +17,7 @@ below_at n [] h i = tt
 below_at n (s ∷ ss) h zero = h zero s (omega arith)
 below_at n (s ∷ ss) h (suc i) = below_at n ss (λ k d within. h (suc k) d (omega arith)) i
 
--- if all items are at most n, so is the item at an index, or 0 past the end
+-- if all items are at most n, so is `slice_index`: the item at an index, or 0 past the end
 pub slice_index_within : (n : ℕ) (xs : List ℕ) (i : ℕ) → All (λ x. x ≤ n) xs → slice_index xs i ≤ n
 slice_index_within n [] i h = omega arith
 slice_index_within n (x ∷ xs) zero h = h zero x (omega arith)

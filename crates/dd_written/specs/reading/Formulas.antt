@@ -70,7 +70,8 @@ formula_at tokens = do
   f ← level_at (unary_at 64) 4 tokens
   if nat_le (tree_depth f.0) 64 then Some f else None
 
--- whether a formula at this place ends before these tokens, because they can't continue it
+-- Whether a formula at this place ends before these tokens. It does unless they begin with `.` or with the sign of a chain that may stand at this
+-- place. No other token can continue it.
 abbrev pub ends : ℕ → List Lexeme → Bool
 ends place (Lexeme.Mark Mark.Dot ∷ tokens) = false
 ends place (Lexeme.Mark Mark.And ∷ tokens) = nat_lt place 1

@@ -1,6 +1,6 @@
 use Rattle.dd_checker.proofs.Certifying.{AreTruthful}
 use Rattle.dd_checker.proofs.laws.certified.Given as goal
 
--- what certificates for the queries seen so far claim is true
+-- the claims of the certificates for the queries seen so far are true
 abbrev pub invariant-loop-at : goal.invariant-loop-at
 invariant-loop-at l = AreTruthful l.script l.at

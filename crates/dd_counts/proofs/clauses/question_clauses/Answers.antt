@@ -6,7 +6,7 @@ use Rattle.dd_counts.proofs.clauses.question_clauses.Goals as goal
 larger : (l a b m x y : ℕ) → a ≡ cut l x → b ≡ cut l y → m ≡ max a b → m ≡ cut l (max x y)
 larger l a b m x y p q r = omega arith
 
--- cutting two counts off before they are added doesn't change their sum, once that is cut off itself
+-- the cut-off sum of two counts is the same if the counts are cut off before they are added
 last : (l t x g h n : ℕ) → t ≡ cut l x → h ≡ cut l g → n ≡ cut l (t + h) → n ≡ cut l (x + g)
 last l t x g h n p q r = omega arith
 

@@ -8,7 +8,7 @@ use Rattle.dd_forbidden.proofs.search.+complete.Given as goal
 abbrev pub decreases-complete : goal.decreases-complete
 decreases-complete l = length l.rest.now
 
--- the fillings in the branches of the symbols so far are listed
+-- the fillings in the branches of the symbols tried so far are listed
 abbrev pub invariant-loop-symbol : goal.invariant-loop-symbol
 invariant-loop-symbol l =
     (l.symbols ≡ l.initial.symbols) × (l.found ≡ l.initial.found ++ map (filled l.cells)

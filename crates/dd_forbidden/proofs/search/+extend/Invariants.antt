@@ -8,7 +8,7 @@ use Rattle.dd_forbidden.proofs.search.+extend.Given as goal
 abbrev pub decreases-extend : goal.decreases-extend
 decreases-extend l = length l.rest.now
 
--- the breaking fillings in the branches of the symbols so far are listed
+-- the breaking fillings in the branches of the symbols tried so far are listed
 abbrev pub invariant-loop-symbol : goal.invariant-loop-symbol
 invariant-loop-symbol l =
     (l.symbols ≡ l.initial.symbols) × (l.found ≡ l.initial.found ++ map (filled (cells_at l.rule l.node))
