@@ -1,4 +1,4 @@
--- The chessboard is a periodic configuration, and it fits the hard-square rule.
+-- The chessboard is a periodic configuration, and it has the dimension, the number of nodes and the symbols of the hard-square rule.
 use Rattle.std.proofs.Common.{refl, arith}
 use Rattle.dd_pattern.specs.{Tile.IsTile, Tile.IsPeriodic, Periods.ArePeriodsIn}
 use Rattle.dd_formula.specs.Living.{Fits}

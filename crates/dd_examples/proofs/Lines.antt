@@ -5,7 +5,7 @@ use Rattle.dd_query.specs.declared.queries.Query.{Query}
 use Rattle.dd_script.specs.Parts.{Parts}
 use Rattle.dd_examples.specs.Lines.{IsLine, AreLines}
 
--- the lines of some queries, followed by the line of one more
+-- the lines of some queries, followed by the line of one more, are the lines of all of them
 line_added : (s : Parts) (number next : ℕ) (qs : List Query) (q : Query) (text line : List ℕ)
     → AreLines s number qs text → IsLine s next q line → next ≡ number + length qs → AreLines s number (qs ++ q ∷ []) (text ++ line)
 line_added s number next [] q text line is_text is_line at =
@@ -25,7 +25,7 @@ line_added s number next (p ∷ qs) q text line is_text is_line at =
       whole = ap (λ (t : List ℕ). t ++ line) is_text.whole ∙ append_assoc is_text.line is_text.rest line;
     }
 
--- the lines of the first queries, followed by the line of the next
+-- the lines of the first `done` queries, followed by the line of the next one, are the lines of the first `done + 1` queries
 pub line_next : (s : Parts) (queries : List Query) (done next : ℕ) (q : Query) (text line : List ℕ)
     → done < length queries → q ≡ get_or queries done q → next ≡ done + 1
     → AreLines s 1 (take done queries) text → IsLine s next q line → AreLines s 1 (take (done + 1) queries) (text ++ line)

@@ -39,8 +39,8 @@ pub record IsJudgedText (bytes : List ℕ) (accepted : Bool) : Type 0 where
   pub text : bytes ≡ output_text output
   pub judged : IsJudged output accepted
 
--- the bytes are the text of an output within bounds, and its script is refused for this fault; or the fault is that memory
--- ran out
+-- the bytes are the text of an output within bounds, and either its script is refused for this fault, or the fault is that
+-- memory ran out
 pub record HasRefusedScript (bytes : List ℕ) (fault : ScriptFault) : Type 0 where
   pub output : Output
   pub bounds : IsWritableOutput output

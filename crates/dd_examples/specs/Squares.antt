@@ -1,4 +1,4 @@
--- The hard-square rule as a formula: a cell with a 1 has a 0 to its right and above it.
+-- The chessboard, and the hard-square rule: a cell with a 1 has a 0 to its right and above it.
 use Rattle.std.specs.Prelude.{ℕ, List, [], ◌∷◌}
 use Rattle.dd_topology.specs.{Builtin.square, Sets.all_symbols}
 use Rattle.dd_pattern.specs.{declared.periods.Periods.Periods, Tile.Tile, Tile.tile}
@@ -24,9 +24,10 @@ hard_formula = Implies (symbol_after [] 1) (And (symbol_after (right ∷ []) 0 �
 abbrev pub hard : LocalRule
 hard = local_rule square (all_symbols 1 2) hard_formula
 
--- the periods of the chessboard, 2 and 2; its rows are 1 0 and 0 1
+-- the periods of the chessboard, 2 and 2
 abbrev pub two_by_two : Periods
 two_by_two = record { x = 2; y = 2; z = 1; shear = 0 }
 
+-- the chessboard; its rows are 1 0 and 0 1
 abbrev pub chessboard : Tile
 chessboard = tile 2 two_by_two 1 (1 ∷ 0 ∷ 0 ∷ 1 ∷ [])

@@ -24,9 +24,10 @@ pub enum Unasked {
     Numbers,
     /// The formula names something that doesn't exist, or is too deep.
     Formula,
-    /// The rule reads a cell that is too far away, or has too many instances, or memory ran out while it was made.
+    /// The rule reads a cell that is too far away, or its formula is too large once its quantifiers are expanded, or memory ran
+    /// out.
     Rule(RuleFault),
-    /// The question isn't well formed, or exceeds a limit.
+    /// The question isn't well formed or exceeds a limit, or memory ran out.
     Question(QuestionFault),
     /// Memory ran out.
     Memory,

@@ -1,5 +1,4 @@
-//! Reading an output, and checking whether each of its answers is a certificate. A certificate is an answer that the check
-//! accepts, without a search. What it claims is true.
+//! Reading an output, and checking whether each of its answers is a certificate. What a certificate claims is true.
 ghost use Rattle.std.specs.Prelude.{◌+◌, ◌<◌, length, IsTrue, ◌↔◌, IfOk, IfErr};
 ghost use Rattle.dd_output.specs.Outputs.{IsWritableOutput};
 ghost use Rattle.dd_script.specs.Scripts.{IsScriptRefusal};

@@ -7,7 +7,7 @@ use dd_derivation::Outcome;
 use dd_engines::{Engine, Proposal, Roster, Tally};
 use std::alloc::{AllocError, Global};
 
-/// An engine that proposes the assignment with the same value for each variable.
+/// An engine that always proposes the assignment in which each variable has the value `value`.
 #[derive(Drop)]
 pub struct Guess {
     value: bool,
@@ -39,8 +39,9 @@ impl Engine for Guess {
     }
 }
 
-/// An assignment that satisfies the clauses, if they are satisfied with all variables false or with all variables true. Nothing
-/// is proved about the engines. The outcome is right all the same, since the roster checks what they propose.
+/// An assignment that satisfies the clauses, if they are satisfied with all variables false or with all variables true;
+/// otherwise `None`. Nothing is proved about the engines. The outcome is right all the same, since the roster checks what they
+/// propose.
 pub fn guessed(alloc: Global, cnf: &Cnf) -> Result<Option<Outcome>, AllocError>
     ensures { IfOk result (λ answer. IfSome answer (IsRightOutcome cnf.now)) }
 {

@@ -3,6 +3,10 @@
 //! answer and each answer is a certificate. With `answer` it reads a script and writes the first line of each answer. With
 //! `squares` it says whether the chessboard is a configuration of hard squares, in which no two 1s are side by side or one
 //! above the other.
+//!
+//! A certificate is an answer that diddy's check accepts; the check makes no search. A roster is a list of engines. An engine
+//! may propose an assignment that satisfies a list of clauses, or a refutation of the list, before diddy searches for one. Each
+//! proposal is checked.
 #![tactic(auto)]
 
 mod asking;

@@ -60,7 +60,7 @@ pub(crate) fn chessboard(alloc: Global) -> Result<Periodic, AllocError>
     }
 }
 
-/// Whether the chessboard is a configuration of hard squares, at every position of the plane.
+/// Whether the chessboard obeys the rule of hard squares at every position of the plane.
 #[tactic(auto, using(crate::proofs::Board::fits_board))]
 pub fn chessboard_membership(alloc: Global) -> Result<Membership, RuleFault>
     ensures { IfOk result (IsMembership hard chessboard) }

@@ -135,6 +135,7 @@ fn squares_text(alloc: Global) -> Result<Vec<u8>, Fault> {
     ) {
         (Ok(Membership::Inside), Ok(Answer::Inside)) => line(alloc, b"inside\n"),
         (Ok(_), Ok(_)) => line(alloc, b"outside\n"),
+        // The rule, the configuration and the limits fit together, so nothing but memory can fail.
         _ => Err(Fault::Memory),
     }
 }

@@ -6,7 +6,7 @@ use dd_circuit::{Circuit, Signal};
 use std::alloc::{AllocError, Global};
 use std::test::Fail;
 
-/// The variable, as a signal.
+/// The signal that is true exactly when the variable is true.
 fn plus(variable: u32) -> Signal
     ensures { result ≡ signal_of variable }
 {
@@ -16,7 +16,7 @@ fn plus(variable: u32) -> Signal
     }
 }
 
-/// The opposite of the variable, as a signal.
+/// The signal that is true exactly when the variable is false.
 fn minus(variable: u32) -> Signal
     ensures { result ≡ opposite (signal_of variable) }
 {
@@ -35,7 +35,7 @@ fn a_conjunction_of_two_inputs(rt: HostRuntime) -> Result<(), Fail> {
     Ok(())
 }
 
-/// The values of three inputs, and the values of the eight gates below.
+/// The values of three inputs, and the values that the gates of `eight_gates` then have.
 const VALUES_OF_GATES: &[([bool; 3], [bool; 8])] = &[
     (
         [false, false, false],

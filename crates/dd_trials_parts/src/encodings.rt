@@ -9,7 +9,7 @@ use std::alloc::{AllocError, Global};
 use std::process::Abort;
 use std::test::Fail;
 
-/// The variable, as a signal.
+/// The signal that is true exactly when the variable is true.
 fn plus(variable: u32) -> Signal
     ensures { result ≡ signal_of variable }
 {
@@ -19,7 +19,7 @@ fn plus(variable: u32) -> Signal
     }
 }
 
-/// The opposite of the variable, as a signal.
+/// The signal that is true exactly when the variable is false.
 fn minus(variable: u32) -> Signal
     ensures { result ≡ opposite (signal_of variable) }
 {

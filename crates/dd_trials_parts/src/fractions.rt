@@ -78,8 +78,8 @@ const CALLS: &[(Call, Pair, Pair, Option<Pair>)] = &[
     (Call::Add, (P126, 1), (P126, 1), None),
     // Twice 1 / 2^64 is 1 / 2^63, but the product of the denominators is 2^128.
     (Call::Add, (1, P64), (1, P64), None),
-    // 2^126 - 2^126 / 3 fits, but the cross product 3 times 2^126 does not.
-    (Call::Add, (P126, 1), (-P126, 3), None),
+    // 2^126 - (2^127 - 1) / 3 is (2^126 + 1) / 3, which fits, but the cross product 3 times 2^126 does not.
+    (Call::Add, (P126, 1), (-MAX, 3), None),
     (Call::Sub, (1, 2), (1, 3), Some((1, 6))),
     (Call::Sub, (1, 2), (1, 2), Some((0, 1))),
     (Call::Sub, (-P126, 1), (P126 - 1, 1), Some((-MAX, 1))),

@@ -1,4 +1,4 @@
-//! Boxes, regions and the order of cells.
+//! Boxes, regions and the order of cells. A region is a finite set of positions.
 use dd_lattice::{Box3, Cell, LatticeFault, Position, centred_box, in_order, positions};
 use std::test::Fail;
 
@@ -34,7 +34,8 @@ fn a_region_and_its_copy(rt: HostRuntime) -> Result<(), Fail> {
     Ok(())
 }
 
-/// A dimension, the amount by which a region at the edge of the range is grown, and the fault, if there is one.
+/// A dimension, the amount by which a region is grown, and the fault, if there is one. The region has one position. Its first
+/// coordinate is 2^20, the greatest that is in range.
 const GROWN_EDGES: &[(u32, u32, Option<LatticeFault>)] = &[
     (1, 0, None),
     (1, 1, Some(LatticeFault::Range)),

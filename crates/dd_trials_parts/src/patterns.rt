@@ -1,4 +1,4 @@
-//! Symbols of periodic configurations and of fillings.
+//! Symbols of periodic configurations and of fillings, and the order of periods and shears.
 ghost use Rattle.std.specs.Prelude.{◌≡◌, IfSome};
 
 use dd_lattice::{Cell, Position, in_order};
@@ -51,7 +51,7 @@ fn symbols_of_periodic_configurations(rt: HostRuntime) -> Result<(), Fail> {
     Ok(())
 }
 
-/// Dimensions, periods, shears, numbers of nodes and symbols that give no configuration.
+/// Rows that give no configuration: a dimension, the periods, the shear, the number of nodes, and the symbols.
 const NO_CONFIGURATIONS: &[(u32, [u32; 3], u32, u32, &[u32])] = &[
     (0, [1, 1, 1], 0, 1, &[7]),
     (4, [1, 1, 1], 0, 1, &[7]),

@@ -1,5 +1,5 @@
-//! Small linear programs. Their results were worked out by a reference implementation with exact fractions, and by trying all
-//! vertices.
+//! Small linear programs. The variables of a program are its columns, and column 0 is maximised. The results were worked out by
+//! a reference implementation with exact fractions, and by trying all vertices.
 use dd_fraction::Fraction;
 use dd_simplex::{Program, SimplexFault, Solved, maximise};
 use std::alloc::{AllocError, Global};
@@ -75,8 +75,8 @@ fn described(alloc: Global, answer: &Result<Solved, SimplexFault>) -> Result<Str
     }
 }
 
-/// A name, the number of columns, the cap on column 0, the rows, the limit on pivots, and the answer. A name that begins with
-/// `first past 2^127` says which number is the first that doesn't fit.
+/// A name, the number of columns, the cap on column 0, the rows, the limit on pivots, and the answer. The first dual is that of
+/// the cap. A name that begins with `first past 2^127` says which number is the first that doesn't fit.
 const CASES: &[(&str, u32, i64, &str, u32, &str)] = &[
     (
         "one column under its cap",

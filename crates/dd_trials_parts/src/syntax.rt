@@ -60,7 +60,7 @@ const FAULTS_OF_TEXT: [(&[u8], u32); 9] = [
     (b"x %rule a o=0", 0),
 ];
 
-/// Commands of the header in the wrong order, repeated, or with wrong parts.
+/// Commands of the header in the wrong order, repeated, or with wrong parts. The header comes before all other commands.
 const FAULTS_OF_HEADERS: [(&[u8], u32); 15] = [
     (b"%rule a o=0 %dim 2", 2),
     (b"%dim 2 %dim 2", 2),

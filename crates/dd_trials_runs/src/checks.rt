@@ -7,7 +7,9 @@ use std::alloc::Global;
 use std::process::Abort;
 use std::test::Fail;
 
-/// The output of a run with one answer, a refutation of six clauses.
+/// The output of a run. Its one answer is YES, with a refutation of six clauses in one step. The line of the step has the
+/// literals of its clause, then a 0, its hints, a 0, its deletes, and a 0. A hint is the number of a clause by which the step
+/// is derived, and a delete is the number of a clause that is removed.
 pub(crate) const OUTPUT: &str =
     "diddy 1\nscript 34\n%dim 1\n%rule x o=0 & o=1\n%empty x\n\nquery 1 YES 0\nrefutation 1\nstep 0 6 3 4 2 0 0\nend\n";
 
@@ -111,7 +113,7 @@ const NUMBERS: [(&str, &str, Status, &str); 11] = [
     ("6 3 4 2", "-6 3 4 2", Status::Refused, "refused at 87\n"),
 ];
 
-// Scripts of another length, texts that aren't scripts, and scripts that ask something else.
+// Wrong lengths of the script, texts that aren't scripts, and scripts that ask something else or nothing.
 const SCRIPTS: [(&str, &str, Status, &str); 9] = [
     ("script 34", "script 33", Status::Refused, "refused at 52\n"),
     ("script 34", "script 35", Status::Refused, "refused at 53\n"),
@@ -161,8 +163,7 @@ const SCRIPTS: [(&str, &str, Status, &str); 9] = [
     ),
 ];
 
-// Other radii, and steps with other hints and deletes. Some of these steps refute the clauses, and others don't. A hint is the
-// number of a clause by which the step is derived, and a delete is the number of a clause that is removed.
+// Other radii, and steps with other hints and deletes. Some of these steps refute the clauses, and others don't.
 const STEPS: [(&str, &str, Status, &str); 13] = [
     ("YES 0", "YES 5", Status::Rejected, "query 1 rejected\n"),
     ("YES 0", "YES 9", Status::Rejected, "query 1 rejected\n"),
@@ -172,12 +173,14 @@ const STEPS: [(&str, &str, Status, &str); 13] = [
         Status::Definite,
         "query 1 accepted\nchecked 1\n",
     ),
-    // Two rows with one hint too few. Then hints in an order in which the first clause isn't a unit, a last hint that names a
-    // clause that is already true, and a hint after the conflict.
+    // One hint too few.
     ("6 3 4 2", "6 4 2", Status::Rejected, "query 1 rejected\n"),
     ("6 3 4 2", "6 3 4", Status::Rejected, "query 1 rejected\n"),
+    // The first hint names a clause that isn't unit.
     ("6 3 4 2", "3 4 2 6", Status::Rejected, "query 1 rejected\n"),
+    // The last hint names a clause that is already true.
     ("6 3 4 2", "6 3 4 5", Status::Rejected, "query 1 rejected\n"),
+    // A hint after the conflict.
     (
         "6 3 4 2",
         "6 3 4 2 2",
@@ -191,6 +194,7 @@ const STEPS: [(&str, &str, Status, &str); 13] = [
         Status::Rejected,
         "query 1 rejected\n",
     ),
+    // A delete of a clause that is there.
     (
         "2 0 0",
         "2 0 6 0",

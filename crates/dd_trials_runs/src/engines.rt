@@ -16,7 +16,7 @@ use std::alloc::{AllocError, Global};
 pub enum Habit {
     /// Nothing.
     Silent,
-    /// A refutation without steps.
+    /// A refutation without steps, which is always wrong.
     NoSteps,
     /// The assignment in which all variables are false.
     AllFalse,

@@ -1,4 +1,5 @@
-// Texts that are refused, and how. A run writes one line: `refused`, then the number of the command, then the reason.
+// Texts that are refused, and how. A run writes one line: `refused`, then the number of the command, then the reason. Commands
+// are numbered from 1, and 0 stands for what comes before the first command.
 use crate::runs::run_on;
 use dd_session::Status;
 use std::alloc::{AllocError, Global};
@@ -131,7 +132,7 @@ fn refuses_what_is_no_script(rt: HostRuntime) -> Result<(), Fail> {
     assert_refused(&rt, alloc, &PAST_A_LIMIT)
 }
 
-// A configuration with a period of 2,000,000 and this many symbols.
+// A script with one configuration, which has a period of 2,000,000 and this many symbols.
 fn long_configuration(alloc: Global, symbols: usize) -> Result<Vec<u8>, AllocError> {
     let mut text = Vec::new(alloc);
     text.extend_from_slice(b"%dim 1 %alphabet 0 a %conf c [2000000] ")?;

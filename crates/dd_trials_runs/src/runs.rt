@@ -25,7 +25,7 @@ pub struct Ran {
     pub status: Status,
     /// What it wrote.
     pub output: Vec<u8>,
-    /// How many engines are left.
+    /// How many engines are left in the roster.
     pub left: usize,
 }
 

@@ -1,4 +1,4 @@
-// How sessions end if the input is too long, or if a source or a sink fails.
+// How sessions end if the input is too long, if a source or a sink fails, or if the words aren't a command.
 use crate::checks::OUTPUT;
 use crate::runs::{HARD, words_of};
 use dd_engines::Roster;
@@ -31,7 +31,7 @@ fn a_long_input_is_refused(rt: HostRuntime) -> Result<(), Fail> {
     Ok(())
 }
 
-// A session without a fault: its word, its input, its status, and what it writes.
+// A session in which no read and no write fails: its words, its input, its status, and what it writes.
 type Session = (&'static str, &'static str, Status, &'static str);
 
 // At most sixteen bytes are read or written at a time. Each row has a session, the number of its reads, and a list. The last read
