@@ -23,6 +23,8 @@ mod tori;
 
 pub use checked::CheckedQuestion;
 pub use conjugacy::Conjugacy;
+// It moved to `dd_formula`. Programs that were written before name it here.
+pub use dd_formula::has_allowed;
 pub use excess::Excess;
 pub use fault::QuestionFault;
 pub use laws::sound_questions;
