@@ -23,7 +23,7 @@ mod tori;
 
 pub use checked::CheckedQuestion;
 pub use conjugacy::Conjugacy;
-// It moved to `dd_formula`. Programs that were written before name it here.
+// `has_allowed` has moved to `dd_formula`. This line keeps older programs working.
 pub use dd_formula::has_allowed;
 pub use excess::Excess;
 pub use fault::QuestionFault;
