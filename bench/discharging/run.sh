@@ -2,7 +2,7 @@
 # Times the discharging bounds of the examples and of the scripts beside this file, from the script's bytes to the last byte of the
 # output, beside the same programs made in Python (programs.py), the run of bench/simplex in plain C++, and glpsol --exact where it is
 # installed (package glpk-utils). Each BOUND is tested by its amounts and duals over the rows that Python made.
-# Seconds of processor time: diddy answers a whole script, the lesser of two runs; the others have one query each, one run, and are given
+# Seconds of user time: diddy answers a whole script, the lesser of two runs; the others have one query each, one run, and are given
 # up after LIMIT seconds (60). The C++ says its value, microseconds by the clock, and pivots.
 set -eu
 

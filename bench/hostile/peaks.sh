@@ -1,5 +1,5 @@
 #!/usr/bin/env bash
-# The most memory that runs take at the limits, and checks of what they wrote, in thousands of bytes: peaks.sh PROGRAM FOLDER. It wants GNU time.
+# The most memory that runs take at the limits, and checks of what they wrote, in thousands of bytes: peaks.sh PROGRAM FOLDER. It needs GNU time.
 set -eu
 
 diddy=$1

@@ -1,6 +1,6 @@
 #!/bin/sh
 # Times membership of a configuration of 65,536 symbols in three rules: the hard-square rule, with three atoms, one of sixteen atoms
-# with sixteen moves each, and one of twenty leaves; a rule whose expansion has 16,276 nodes; and the reading of a script of 1,048,576
+# with sixteen moves each, and one of twenty atoms; a rule whose expansion has 16,276 parts; and the reading of a script of 1,048,576
 # bytes, with a thousand commands. The time is that of the whole program, from the script's bytes to the end of its output.
 set -eu
 

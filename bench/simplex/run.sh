@@ -2,9 +2,9 @@
 # Times the pivot run on random programs of the shape of discharging bounds, beside the same run in plain C++ and in
 # Python's fractions, and glpsol --exact where that is installed (package glpk-utils), which takes other pivots.
 # The program over the library is proved and built in a temporary folder, with copies of the crates that it stands on;
-# the one invariant that its proof wants is written here.
-# Each line is a program (rows, patterns, vectors, seed), then who ran it, the seconds of processor time, and what it said:
-# the value, the microseconds by the clock, and the pivots where they are counted. It is the least of three runs, of Python
+# the one invariant that its proof needs is written here.
+# Each line is a program (rows, patterns, vectors, seed), then who ran it, the seconds of user time, and what it said:
+# the value, the microseconds by the clock, and the pivots if they are counted. It is the least of three runs, of Python
 # and glpsol one run. A run over LIMIT seconds (60) is given up.
 set -eu
 

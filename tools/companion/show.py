@@ -1,6 +1,6 @@
 """`tools/show < output`: the configurations of an output as rows of text. It is not proved, and checks nothing.
 
-Rows go upwards, so the highest row is printed first. There is a layer for each z. The nodes of a position stand beside each other. Two fundamental
+The row with the greatest y is printed first. There is a layer for each z. The nodes of a position stand beside each other. Two fundamental
 boxes are shown along each of the first two axes, with the shear.
 """
 import sys

@@ -1,6 +1,6 @@
 """Transfer graphs of rules over strips, and the check of least densities.
 
-docs/certificate.md defines the graph, docs/strips.md explains it (a transfer matrix, as in Lind and Marcus 1995).
+docs/strips.md defines the graph (a transfer matrix, as in Lind and Marcus 1995), docs/certificate.md the numbers of its states.
 """
 import itertools
 from fractions import Fraction

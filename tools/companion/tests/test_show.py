@@ -18,7 +18,7 @@ class Pictures(unittest.TestCase):
         return out.getvalue()
 
     def test_sheared(self) -> None:
-        """Rows go upwards, shears are carried out, and the cell of an OUT is marked."""
+        """The row with the greatest y comes first, shears are carried out, and the cell of an OUT is marked."""
         shown = self.shown("sheared-codes").splitlines()
         self.assertEqual(shown[3:5], ["y = 1    0   1   0   0   0   0   1   0   0   0", "y = 0    1  [0]  0   0   0   1   0   0   0   0"])
 
