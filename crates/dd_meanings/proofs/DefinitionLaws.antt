@@ -1,4 +1,5 @@
--- Automata by cases and compositions that have no fault are well formed, and fit the script's dimension, nodes and symbols.
+-- Definitions without faults, of automata by cases and of compositions. If the automaton could be made, it is well formed and fits the script's
+-- dimension, nodes and symbols. If not, the refusal is right.
 use Rattle.std.proofs.Common.{◌≡◌, ◌<◌, ◌≤◌, List, [], length, map, slice_index_or, refl, ap, subst, arith}
 use Rattle.std.proofs.lemmas.{List.Elements.All-map, List.Elements.All-get_or, Option.unwrap_or-slice_get}
 use Rattle.std.specs.List.{All, flat_map}

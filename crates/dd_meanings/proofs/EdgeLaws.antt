@@ -36,7 +36,7 @@ one_edge x labels e (h, label) =
     let offset = offset_is x.text (dimension_of x.known) e.offset (grind (arith, parts)) (grind (arith, parts)) in
     grind (arith, parts)
 
--- edges with the same label and the same first node have the same key
+-- edges with the same label and the same first node have the same key: the text of the label, a comma, and the text of the node
 same_key : (x : Context) (labels : List (List ℕ)) (e f : Written) → IsLabelled x labels e → IsLabelled x labels f
     → starts_alike (edge_of x.text labels x.known.setting.nodes e) (edge_of x.text labels x.known.setting.nodes f) ≡ true → edge_key x.text e ≡ edge_key x.text f
 same_key x labels e f (h, label) (g, label') alike =

@@ -131,7 +131,7 @@ module _ (x : Context) (same : x.known.setting.topology.nodes ≡ length x.known
     list_no_deeper j n [] le one = omega arith
     list_no_deeper j n (f ∷ fs) le one = grind (arith, le, one n 0)
 
-    -- chains of `->`: the parts from part i of n on, which are below the i signs before them in the tree
+    -- chains of `->` with n parts: f and fs are the parts from part i on; in the tree of the whole chain, what they mean lies below i signs
     implied_is : (n i : ℕ) (f : Known) (fs : List Known) → n ≡ i + (1 + length fs) → faults (f ∷ fs) ≡ []
         → (its_fits (implied_of (meant (f ∷ fs))) (length scope + 1) ≡ true) × (i + depth (implied_of (meant (f ∷ fs))) ≤ chain_depth Join.Implies n i (depths (f ∷ fs)))
     implied_is n i f [] count none =

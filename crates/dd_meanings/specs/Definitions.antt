@@ -40,7 +40,8 @@ composition_of x automata outer inner = automaton.Composed (automaton_named x au
 abbrev pub configuration_periods : List ℕ → Vector → List ℕ
 configuration_periods bytes v = period_at bytes v 0 ∷ period_at bytes v 1 ∷ period_at bytes v 2 ∷ []
 
--- a configuration, with its symbols in cell order (by z, then y, then x, then the node); the shear is 0 if none is given
+-- A configuration, with its symbols in cell order (by z, then y, then x, then the node). The shear is how far each repetition along the second axis
+-- is moved along the first; it is 0 if none is given.
 abbrev pub tile_of : Context → Vector → Option Vector → List Name → Tile
 tile_of x periods shear symbols =
     tile (dimension_of x.known) (with_shear (configuration_periods x.text periods) (shear_of x.text shear)) x.known.setting.topology.nodes (map (symbol_of x) symbols)

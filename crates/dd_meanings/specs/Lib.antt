@@ -1,7 +1,7 @@
 -- the types of syntax trees, of what a script has said before a command, and of faults
 pub mod Tree
--- what each command means, and the limits that the counts of a rule or an automaton exceed; the counts are its instances, the cells that it reads
--- and its depth
+-- what each command means, and which limits a rule or an automaton exceeds: on the number of its instances, on how far away it reads cells, or on
+-- its depth
 pub mod Meanings
 -- rules and automata over a script's topology, its symbols, and the symbols that each node allows
 pub mod Made

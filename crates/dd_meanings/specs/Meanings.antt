@@ -1,5 +1,5 @@
--- What each command means, and the limits that the counts of a rule or an automaton exceed. The counts are its instances, the cells that it reads
--- and its depth.
+-- What each command means, and the limits that the counts of a rule or an automaton exceed. The counts are the number of its instances, the cells
+-- that it reads, and its depth. The limit on the cells is on how far away they are, not on their number.
 use Rattle.std.specs.Prelude.{List, [], length, map, true, false, if◌then◌else◌}
 use Rattle.dd_meanings.specs.Tree.{Kind, Command, Fault, Context}
 use Rattle.dd_topology.specs.Builtin.{grid_of}

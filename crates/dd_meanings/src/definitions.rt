@@ -119,7 +119,8 @@ pub(crate) fn composition(
     }
 }
 
-/// What a definition of a configuration means: the configuration with these periods, this shear and these symbols.
+/// What a definition of a configuration means: the configuration with these periods, this shear and these symbols. The shear is
+/// how far each repetition along the second axis is moved along the first.
 pub(crate) fn configuration(
     alloc: Global,
     context: &Context,

@@ -15,7 +15,7 @@ use Rattle.dd_session.specs.Checks.{accepted_line, rejected_line, accepted_lines
 use Rattle.dd_session.specs.Checked.{CheckFront}
 use Rattle.dd_session.specs.checking.Judged.{IsJudged, Judged, JudgedFront, nothing, part, most_of, RejectedHere, AcceptedEach, AcceptedAll, EachJudged}
 
--- ---- facts about an item that exists
+-- ---- options that are `Some`, and results
 
 some_there : {X : Type 0} (o : Option X) (P : X → Type 0) → IsSomeAnd o P → (x : X) × (o ≡ Some x) × P x
 some_there None P fact = absurd fact

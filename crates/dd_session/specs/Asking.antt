@@ -70,8 +70,8 @@ IsUnanswered Memory = ⊥
 IsUnanswered BadWords = Unit {0}
 IsUnanswered Rejected = Unit {0}
 
--- The bytes are a script. If one of its queries comes down to box questions, the first engine that is left, if there is one, was
--- asked.
+-- The bytes are a script. If one of its queries comes down to box questions, the first engine still in the roster, if there is
+-- one, was asked.
 pub record AsksFirstOver (bytes : List ℕ) (before after : List Seen) : Type 0 where
   pub script : Parts
   pub spelled : Spells bytes script
@@ -89,7 +89,7 @@ pub record AsksFirst (left_old left_new : Option (List ℕ)) (before after : Lis
 pub record AreKept {E : Type 0} (roster : Engines E) (status : Status) : Type 0 where
   -- Each sound engine is still there, in order, and no count of an engine has fallen.
   pub kept : Kept roster.before roster.after
-  -- If no query is answered, no engine is asked.
+  -- If the status says that no query was answered, no engine was asked.
   pub unanswered : IsUnanswered status → AreUnasked roster
 
 -- What holds for the word `run`.
@@ -98,6 +98,6 @@ pub record RunConsults {S K E : Type 0} (source : Change S) (sink : Change K) (r
   pub late : AreUnasked roster ⊎ HasBegun source.bytes_old source.bytes_new sink.bytes_old sink.bytes_new
   -- No engine is asked for an input that is refused.
   pub refused : (bytes : List ℕ) → source.bytes_old ≡ Some bytes → ¬ IsAccepted bytes → AreUnasked roster
-  -- If all queries were answered and one of them comes down to box questions, the first engine that is left, if there is one, was
-  -- asked.
+  -- If all queries were answered and one of them comes down to box questions, the first engine still in the roster, if there is
+  -- one, was asked.
   pub asked : IsToEnd status → AsksFirst source.bytes_old source.bytes_new roster.before roster.after

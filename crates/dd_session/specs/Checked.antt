@@ -15,7 +15,7 @@ pub record WholeCheck (old new : Option (List ℕ)) (has : Bool) (bytes : List �
   pub all : IsAllAccepted has bytes
   pub appends : Appends old new (accepted_lines (length all.output.answers) ++ checked_line (length all.output.answers))
 
--- Some query is rejected, and all lines up to that of the first rejected query were written.
+-- Something is rejected, and all lines up to that of the first rejection were written.
 pub record WholeRejection (old new : Option (List ℕ)) (bytes : List ℕ) : Type 0 where
   pub done : ℕ
   pub rejected : IsRejectedAfter done bytes
@@ -67,7 +67,7 @@ pub record Read (left_old left_new : Option (List ℕ)) (P : List ℕ → Type 0
   pub short : length bytes ≤ most_checked
   pub holds : P bytes
 
--- The same, for a source before and after a call.
+-- The same, with the source given as a `Change`.
 abbrev pub OfBytes : {S : Type 0} → Change S → (List ℕ → Type 0) → Type 0
 OfBytes source P = Read source.bytes_old source.bytes_new P
 

@@ -81,8 +81,8 @@ pub data IsRefusedOutput (bytes : List ℕ) (line : List ℕ) : Type 0 where
   no_script : (o : Output) → IsOutput bytes o → (command : ℕ) (k : RefusalKind) → RefusedAs o.script command k → line ≡ script_line command k
       → IsRefusedOutput bytes line
 
--- What follows the lines of `done` accepted queries: the line of the first rejected query, or the last line, or nothing if the check was broken
--- off there.
+-- What follows the lines of `done` accepted queries: the line of the first rejection, or the last line, or nothing if the check was broken off
+-- there.
 pub data IsEnding (s : Parts) (answers : List Answer) (done : ℕ) (ending : List ℕ) : Type 0 where
   broken_off : ending ≡ [] → IsEnding s answers done ending
   rejected : FirstRejected s answers done → ending ≡ rejected_line (done + 1) → IsEnding s answers done ending
@@ -96,7 +96,7 @@ pub record IsAllAccepted (has : Bool) (bytes : List ℕ) : Type 0 where
   pub accepted : AllAccepted script output.answers
   pub unknown_is : has_unknown output.answers ≡ has
 
--- The bytes are an output with a script, and after `done` accepted queries comes one that is rejected.
+-- The bytes are an output with a script. Its first `done` answers are accepted, and the first rejection comes next.
 pub record IsRejectedAfter (done : ℕ) (bytes : List ℕ) : Type 0 where
   pub output : Output
   pub script : Parts

@@ -14,8 +14,8 @@ use Rattle.dd_session.specs.Asking.{Engines, AreUnasked, AreKept, RunConsults, I
 pub record IsRun {S K : Type 0} (source : Change S) (sink : Change K) (status : Status) : Type 0 where
   -- What was read and what was written, for each status.
   pub ended : Ended source sink status
-  -- What the status says about the bytes of the source, if these are known. If all queries were answered, the bytes are a script, and the status
-  -- says whether some query has no definite answer. If the bytes were refused, they aren't a script or are too long.
+  -- What the status says about the bytes of the source, if these are known (see `Sides`). If all queries were answered, the bytes are a script, and
+  -- the status says whether some query has no definite answer. If the bytes were refused, they aren't a script or are too long.
   pub decided : (bytes : List ℕ) → source.bytes_old ≡ Some bytes → DecidesStatus bytes status
   -- At most one byte more than a script may have is taken from the source.
   pub taken : GivesAtMost source.bytes_old source.bytes_new (most_script + 1)
@@ -64,12 +64,12 @@ pub record IsSession {S K : Type 0} (words : List (List ℕ)) (source : Change S
 
 -- Which engines a session asks.
 pub record Consults {S K E : Type 0} (words : List (List ℕ)) (source : Change S) (sink : Change K) (roster : Engines E) (status : Status) : Type 0 where
-  -- Each sound engine stays in the roster, in order. If no query is answered, no engine is asked.
+  -- Each sound engine stays in the roster, in order. If the status says that no query was answered, no engine was asked.
   pub always : AreKept roster status
   -- A run asks no engine before its whole header is written, and none for an input that is refused.
   pub run : IsOnly (codes "run") words → RunConsults source sink roster status
   -- A check asks no engine.
   pub check : IsOnly (codes "check") words → AreUnasked roster
-  -- If all queries of a sample were answered and one of them comes down to box questions, the first engine that is left, if there
-  -- is one, was asked.
+  -- If all queries of a sample were answered and one of them comes down to box questions, the first engine still in the roster, if
+  -- there is one, was asked.
   pub sample : (number : ℕ) → IsSample number words → IsToEnd status → AsksFirstOver (sample_text number) roster.before roster.after

@@ -1,5 +1,6 @@
-//! The check of an output's answers. Each line is written as soon as it is known. A query without an answer is rejected, and so
-//! is an answer without a query.
+//! The check of an output's answers. It writes a line for each query, which says whether the answer is accepted. Each line is
+//! written as soon as it is known. A query without an answer is rejected, and so is an answer without a query. The first
+//! rejection ends the check.
 ghost use Rattle.std.specs.Prelude.{◌≡◌, ◌≤◌, length, IfOk, OnErr, string_bytes};
 ghost use Rattle.std.specs.List.{list_any};
 ghost use Rattle.dd_values.specs.Bounds.{most_commands};
@@ -109,8 +110,8 @@ fn check_each<K: Sink>(
     Ok(true)
 }
 
-/// Checks the answers in order, and stops at the first rejection. If there is none, writes how many answers there are. True if
-/// there is none.
+/// Checks the answers in order, and stops at the first rejection. If nothing is rejected, writes how many answers there are.
+/// True if nothing is rejected.
 pub(crate) fn check_all<K: Sink>(
     alloc: Global,
     script: &Script,

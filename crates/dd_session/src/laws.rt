@@ -13,7 +13,8 @@ use dd_script::Script;
 use dd_spelling::one_script;
 
 /// Does nothing. Its contract says that a check accepts all answers in the whole output of a run of a script. If the output has
-/// at most `MOST_OUTPUT` bytes and a check of it comes to its end, the check's status is that of the run.
+/// at most `MOST_OUTPUT` bytes, each check of it that isn't cut short (by a fault or for want of memory) ends with the status
+/// of the run.
 pub fn runs_are_accepted(script: &Script)
     ensures accepted { (bytes text : List ℕ) (has : Bool) → IsRunOutput bytes script.now has text → IsAllAccepted has text }
     ensures same_status { (bytes text : List ℕ) (has : Bool) (status : AnyStatus) → IsRunOutput bytes script.now has text → length text ≤ most_checked →

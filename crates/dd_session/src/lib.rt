@@ -1,16 +1,17 @@
-//! Whole sessions. A session does one of three things: it runs a script and writes its output, it checks such an output, or it runs
-//! a sample, which is a script that the program makes itself. A script asks queries about rules, configurations and automata. Its
-//! output has an answer to each query. Bytes are read from a source and written to a sink.
+//! Whole sessions. A session does one of three things: it runs a script and writes its output, it checks such an output, or it
+//! runs a sample, which is a script that the program makes itself. A script asks queries about rules, configurations and
+//! automata. Its output has an answer to each query. Bytes are read from a source and written to a sink.
 //!
 //! `dd_answer` defines which answers to a query are right. All right answers to a query have the same first line. A certificate
-//! is an answer that a check accepts. Each right answer that an output can hold is a certificate, and what a certificate claims
-//! is true. An answer is UNKNOWN if its query wasn't settled within the limits on the work for one answer. All other answers
-//! are definite.
+//! is an answer that a check accepts. An output has bounds on its numbers and lists. Each right answer within these bounds is a
+//! certificate, and what a certificate claims is true. An answer is UNKNOWN if its query wasn't settled within the limits on
+//! the work for one answer. All other answers are definite.
 //!
 //! Some queries come down to box questions. A box question has a rule (its premise) and a goal: a property of a position, such
 //! as that another rule is broken there. It asks whether no configuration that obeys the premise has the goal at any position.
 //! For such a query a run asks the engines of a roster, which is a list of engines, before it searches. An engine is any value
-//! that proposes a result of the search. Each proposal is checked. An engine is sound if all that it proposes is right.
+//! that may propose a result of the search. Each proposal is checked, and an engine whose proposal is wrong is dropped from the
+//! roster. An engine is sound if all that it proposes is right.
 #![tactic(auto)]
 
 mod checking;

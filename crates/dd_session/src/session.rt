@@ -262,9 +262,10 @@ fn run_sample<K: Sink, E: Engine>(
 /// an engine may run out of memory.
 ///
 /// On every return all sound engines are still in the roster, in the same order. The header of an output is all lines before the
-/// first answer. `run` asks no engine before the whole header is written, and none for an input that is refused. `check` asks no
-/// engine. If a run, or the run of a sample, comes to its end and some query comes down to box questions, the first engine that
-/// is left, if there is one, was asked. All engines that stood ahead of it were dropped, and none of these was sound.
+/// first answer. `run` asks no engine before the whole header is written, and none for an input that is refused. `check` asks
+/// no engine. If a run, or the run of a sample, comes to its end and some query comes down to box questions, then the first
+/// engine still in the roster, if there is one, was asked. All engines that stood ahead of it were dropped, and none of these
+/// was sound.
 pub fn run_diddy<S: Source, K: Sink>(
     alloc: Global,
     words: &[String],

@@ -26,11 +26,11 @@ pub data JudgedFront (old new : Option (List ℕ)) (s : Parts) (answers : List A
   nothing : GainsFront old new [] → JudgedFront old new s answers number
   part : (accepted : Bool) → IsJudged s answers number accepted → GainsFront old new (verdict_line number accepted) → JudgedFront old new s answers number
 
--- The greatest number of a query or of an answer.
+-- The number of queries or the number of answers, whichever is greater.
 abbrev pub most_of : Parts → List Answer → ℕ
 most_of s answers = max (length s.queries) (length answers)
 
--- The lines up to that of the first rejected query were written.
+-- The lines up to that of the first rejection were written.
 pub record RejectedHere (old new : Option (List ℕ)) (s : Parts) (answers : List Answer) : Type 0 where
   pub done : ℕ
   pub rejected : FirstRejected s answers done
@@ -46,7 +46,7 @@ pub record AcceptedAll (old new : Option (List ℕ)) (s : Parts) (answers : List
   pub all : AllAccepted s answers
   pub appends : Appends old new (accepted_lines (length answers) ++ checked_line (length answers))
 
--- What was written, apart from the line `checked`. If nothing is rejected, the truth value is true and that line comes last.
+-- What was written before the line `checked`. The truth value says whether nothing was rejected; only then does that line follow.
 abbrev pub EachJudged : Option (List ℕ) → Option (List ℕ) → Parts → List Answer → Bool → Type 0
 EachJudged old new s answers true = AcceptedEach old new s answers
 EachJudged old new s answers false = RejectedHere old new s answers
