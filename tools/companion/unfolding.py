@@ -107,8 +107,9 @@ class Unfolding:
             return self._call(formula, scope)
         if isinstance(formula, Value):
             symbol = scope.symbols.get(formula.symbol.text, formula.symbol.text)
-            found = self._value(formula.name, scope.term(formula.cell), symbol, scope.taken)
-            return found if formula.equal else opposite(found)
+            cell = scope.term(formula.cell)
+            found = self._value(formula.name, cell, symbol, scope.taken)
+            return self._where([cell], found if formula.equal else opposite(found))
         return self._count(formula, scope) if isinstance(formula, Count) else self._atom(formula, scope)
 
     def _arrow(self, formula: Union[Implies, Iff], scope: Scope) -> Formula:
@@ -211,12 +212,28 @@ class Unfolding:
             return formula._replace(body=self._inside(formula.body, inner, taken | {formula.variable.text}))
         if isinstance(formula, IsSymbol):
             value = self._value(inner, formula.term, formula.symbol.text, taken)
-            return value if formula.equal else opposite(value)
+            return self._where([formula.term], value if formula.equal else opposite(value))
         if isinstance(formula, SameSymbol):
             same = joined([joined([self._value(inner, cell, symbol, taken) for cell in (formula.left, formula.right)], every=True)
                            for symbol in self.script.symbols], every=False)
-            return same if formula.equal else opposite(same)
+            return self._where([formula.left, formula.right], same if formula.equal else opposite(same))
         return formula
+
+    def _where(self, cells: Sequence[Term], formula: Formula) -> Formula:
+        """The formula, and that no move to these cells is missing. This is said only of moves that some node lacks."""
+        lacking = {tuple(token.text for token in (cell.variable, *cell.moves)): cell for cell in cells if self._may_lack(cell.moves)}
+        there = [SameSymbol(cell, cell, True) for cell in lacking.values()]
+        return joined([*there, formula], every=True)
+
+    def _may_lack(self, moves: Sequence[Token]) -> bool:
+        """Whether these moves, from some node, lead nowhere."""
+        for node in range(self.script.topology.nodes):
+            cell: Optional[Cell] = (0, 0, 0, node)
+            for move in moves:
+                cell = self.script.topology.move(cell, move.text) if cell is not None else None
+            if cell is None:
+                return True
+        return False
 
     def _count(self, formula: Count, scope: Scope) -> Formula:
         """A count: over the cells that moves lead to, if they lead to all of them, otherwise by nested quantifiers."""

@@ -95,6 +95,14 @@ class Scripts(unittest.TestCase):
         one = b"%dim 1 %topology (rt 0 [1] 0)\n%rule x #p~o p=1 >= 2\n"
         self.assertIn("Ep[o1] (p~o & p=1 & Eq[o1] (!q@p & q~o & q=1))", expanded(one))
 
+    def test_missing_moves(self) -> None:
+        """Where a move is missing, a value at its end is no symbol, also inside a composition."""
+        one_way = b"%dim 1 %nodes a b %topology (u a [0] b)\n%auto f when o=1 give 0 else 1 %auto g when o.u=1 give 1 else 0 %compose h g f\n"
+        lines = expanded(one_way + b"%rule x h(o)=1\n%rule y f(o.u)!=1\n%rule z h(o)!=1\n").splitlines()
+        self.assertEqual(lines[-3:], ["%rule x o.u=o.u & !o.u=1", "%rule y o.u=o.u & o.u=1", "%rule z !(o.u=o.u & !o.u=1)"])
+        equal = b"%auto g when o.u=o give 1 else 0 %compose h g f\n%rule x h(o)=1\n"
+        self.assertIn("o.u=o.u & (", expanded(b"%dim 1 %nodes a b %topology (u a [0] b)\n%auto f when o=1 give 0 else 1\n" + equal))
+
     def test_faults(self) -> None:
         """Messages with a line and a column."""
         for script, kind, row, column in (
