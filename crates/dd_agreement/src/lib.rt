@@ -1,6 +1,7 @@
-//! Every right answer to a question is a certificate. The check accepts an answer exactly when it is a certificate and an
-//! output can hold it: its numbers and lists are within the bounds that `dd_certificate` states. So the check accepts every
-//! right answer that an output can hold. `dd_respond` defines which answers are right, and `dd_verify` which are certificates.
+//! Every right answer to a question is a certificate: an answer with all that is needed to check it without a search. The check
+//! accepts an answer exactly when it is a certificate and an output can hold it: its numbers and lists are within the bounds
+//! that `dd_certificate` states. So the check accepts every right answer that an output can hold. `dd_respond` defines which
+//! answers are right, and `dd_verify` which are certificates.
 #![tactic(auto)]
 
 mod laws;

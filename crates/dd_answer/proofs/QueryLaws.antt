@@ -15,7 +15,7 @@ module _ (s : Parts) (q : Query) (k : Asked) (asks : asked s q ≡ Some k) where
   right_for l limits a right =
       subst (λ (o : Option Asked). IsSomeAnd o (λ j. IsRightTo s.known.limits j a)) (sym asks) (subst (λ (m : Limits). IsRightTo m k a) limits right)
 
-  -- engines are asked for the query exactly when they are asked for its question
+  -- if the roster changed as it should for the question, it changed as it should for the query
   pub engages_for : (before after : List Seen) → Engages (IsBoxQuestion k) before after → Engages (AsksBoxes s q) before after
   engages_for before after told = subst (λ (o : Option Asked). Engages (IsSomeAnd o IsBoxQuestion) before after) (sym asks) told
 

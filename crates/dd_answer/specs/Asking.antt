@@ -9,7 +9,7 @@ use Rattle.dd_script.specs.{Parts.Parts, Questions.asked}
 abbrev pub AsksBoxes : Parts → Query → Type 0
 AsksBoxes s q = IsSomeAnd (asked s q) IsBoxQuestion
 
--- one of the queries comes down to box questions
+-- at least one of the queries comes down to box questions
 abbrev pub AsksSomeBoxes : Parts → List Query → Type 0
 AsksSomeBoxes s [] = ⊥
 AsksSomeBoxes s (q ∷ queries) = AsksBoxes s q ⊎ AsksSomeBoxes s queries

@@ -5,7 +5,7 @@ use Rattle.dd_query.specs.declared.queries.Query.{Query}
 use Rattle.dd_respond.specs.Right.{IsRightTo}
 use Rattle.dd_script.specs.{Parts.Parts, Questions.asked}
 
--- within the script's limits, the answer is a right one to the question that the query asks
+-- the answer is right for the question that the query asks, under the script's limits
 abbrev pub Right : Parts → Query → Answer → Type 0
 Right s q a = IsSomeAnd (asked s q) (λ k. IsRightTo s.known.limits k a)
 

@@ -8,8 +8,8 @@ ghost use Rattle.dd_answer.specs.Right.{Right};
 use dd_respond::one_response;
 use dd_script::Script;
 
-/// Does nothing. Its contract says that all right answers to a query of the script have the same first line. They differ only in
-/// their evidence. So the script alone determines whether the right answers to a query are UNKNOWN.
+/// Does nothing. Its contract says that all right answers to a query of the script have the same first line, and that either
+/// all of them are UNKNOWN or none is. So they differ only in their evidence.
 pub fn one_line(script: &Script)
     ensures { (query : AnyQuery) (a b : AnyAnswer) → Contains script.now.queries query → Right script.now query a → Right script.now query b → SayTheSame a b }
 {

@@ -56,7 +56,7 @@ image_from_box f t n ok formed placed ss as_many each = record {
     below_by m (x ∷ xs) h zero d within = h zero (omega arith)
     below_by m (x ∷ xs) h (suc k) d within = below_by m xs (λ j below. h (suc j) (omega arith)) k d (omega arith)
 
--- the configuration's symbols are in the alphabet
+-- if the symbols in the box are below n, so are the symbols of all cells
 pub tile_is_below : (n : ℕ) (t : Tile) → All (λ s. s < n) t.symbols → HasSymbolsBelow n (tile_look t)
 tile_is_below n t h c = by (nat_lt c.node t.nodes)
   where
@@ -64,7 +64,7 @@ tile_is_below n t h c = by (nat_lt c.node t.nodes)
     by true = below_at n t.symbols h (tile_index t c)
     by false = tt
 
--- each cell that is read at a cell of the box has a symbol
+-- if cells are near the origin and belong to the setting, then each of them, shifted by the position of a cell of the box, has a symbol
 pub given_all : (t : Tile) (s : CommonNumbers) → IsPeriodic t → s.nodes ≡ t.nodes → (c : Cell) → IsInBox t c → (ds : List Cell) → list_all is_near ds ≡ true → list_all (is_cell_of s) ds ≡ true →
     are_given (tile_look t) c.position ds ≡ true
 given_all t s ok same c h [] near placed = refl
@@ -121,7 +121,7 @@ image_composed f g t u w h placed first second = record {
   below = λ n well. second.below n (subst (λ s. IsAutomaton s f) (same_numbers t u n first.dimension first.nodes) (outer_part (tile_numbers t n) f g well));
 }
 
--- one more value in a list
+-- a list with one more item at its end: the items before it stay as they were, and the new item is the last
 get_before : (xs : List ℕ) (x k : ℕ) → k < length xs → slice_get (xs ++ x ∷ []) k ≡ slice_get xs k
 get_before [] x k h = absurd (omega arith)
 get_before (y ∷ ys) x zero h = refl

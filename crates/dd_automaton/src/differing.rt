@@ -23,7 +23,7 @@ fn value_at_origin(
 {
     // This call tells the proof that the automaton reads only cells whose nodes the configuration has.
     automaton.reads_are_placed();
-    // This call tells the proof what holds of every periodic configuration.
+    // This call tells the proof that the configuration has a symbol for each cell of its fundamental box.
     let _symbols = periodic.symbols();
     let position = Position { x: 0, y: 0, z: 0 };
     match automaton.value(alloc, &Cell { position, node }, periodic)? {
@@ -32,7 +32,8 @@ fn value_at_origin(
     }
 }
 
-/// Whether the two automata give some cell at the origin different symbols.
+/// Whether the two automata give some cell at the origin different symbols. Each automaton must be well formed over the
+/// configuration's dimension and number of nodes and over an alphabet that has all symbols of the configuration.
 ///
 /// # Errors
 /// `AllocError` if memory ran out.

@@ -48,7 +48,8 @@ pub record Never (x : LocalRule) (g : GoalOf) (n : ℕ) : Type 0 where
 abbrev pub IsInNoConfiguration : LocalRule → GoalOf → Type 0
 IsInNoConfiguration x g = (look : Look) → IsConfiguration x look → Obeys x look → (v : Place) → is_flat x.dimension v ≡ true → HasGoal g look v → ⊥
 
--- no periodic configuration of the rule's subshift has the goal at any position of Z^d, whatever its periods and shear are
+-- No periodic configuration of the rule's subshift has the goal at any position of Z^d, whatever its periods and its shear are. The shear says how
+-- far each repetition along the second axis is moved along the first.
 abbrev pub IsInNoTile : LocalRule → GoalOf → Type 0
 IsInNoTile x g = (t : Tile) → IsTile t → Fits x t → HasAllowed x t → Lives x t → (v : Place) → is_flat x.dimension v ≡ true → HasGoal g (tile_look t) v → ⊥
 

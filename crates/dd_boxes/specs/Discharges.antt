@@ -1,5 +1,6 @@
--- What a discharging question may ask: along which vectors weight is given, and what the symbols weigh. In a discharge, each position first holds the
--- weight of its symbols, and then gives amounts of it along the vectors.
+-- What a discharging question may ask: along which vectors weight is given, and what the symbols weigh. The question asks for the best lower bound on
+-- a rule's density that a discharge gives. In a discharge, each position first holds the weight of its symbols, and then gives amounts of it along
+-- the vectors.
 use Rattle.std.specs.Prelude.{ℕ, ◌≤◌, ◌≡◌, true, unsigned_abs, List, length}
 use Rattle.std.specs.{List.All, List.IsDistinct, Ordering.is_eq}
 use Rattle.dd_values.specs.Bounds.{most_weight}
@@ -21,7 +22,7 @@ pub record AreVectors (d : ℕ) (vs : List Place) : Type 0 where
   pub distinct : IsDistinct (λ p q. is_eq (place_cmp p q)) vs
   pub each : All (IsVector d) vs
 
--- a weight for each symbol, within the limit
+-- a weight for each symbol, none of them above `most_weight`
 pub record AreWeightsFor (x : LocalRule) (ws : List ℕ) : Type 0 where
   pub as_many : length ws ≡ x.symbols
   pub small : All (λ w. w ≤ most_weight) ws

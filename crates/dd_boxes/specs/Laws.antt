@@ -11,6 +11,7 @@ pub record OneBox (x : LocalRule) (g : GoalOf) (n : ℕ) : Type 0 where
   pub positions : (p : Place) → (in_box x.dimension n p ≡ true) ↔ IsCentred x.dimension n p
   -- the box contains what the goal reads exactly when its radius is at least the goal's least radius
   pub radius : (least : ℕ) → IsLeastRadius g least → Reaches g n ↔ (least ≤ n)
-  -- if the box contains what the goal reads, and suffices, then each larger box suffices, and the goal holds nowhere
+  -- Let the goal be one for questions whose premise is x. If the box contains what the goal reads, and suffices, then each larger box suffices, and
+  -- the goal holds nowhere.
   pub larger : IsGoalFor x g → Reaches g n → Suffices x g n → (m : ℕ) → n ≤ m → Suffices x g m
   pub nowhere : IsGoalFor x g → Reaches g n → Suffices x g n → HoldsNowhere x g n

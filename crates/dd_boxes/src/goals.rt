@@ -35,6 +35,9 @@ pub fn keeps_rule(goal: &Goal)
 
 /// The least radius for which the box round the origin contains every cell that the goal reads at the origin's nodes. If the
 /// goal has automata, both must be well formed over the same dimension, number of nodes and alphabet.
+///
+/// # Errors
+/// `AllocError` if memory ran out.
 pub fn least_radius(alloc: Global, goal: &Goal) -> Result<u32, AllocError>
     requires { IsGoal goal.now }
     ensures { IfOk result (λ n. (x : LocalRule) → IsRule x → IsGoalFor x (goal_of x goal.now) → IsLeastRadius (goal_of x goal.now) n) }

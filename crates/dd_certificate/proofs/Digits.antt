@@ -3,14 +3,14 @@ use Rattle.std.proofs.Common.{◌≡◌, ℕ, zero, suc, ◌+◌, ◌*◌, ◌/�
 use Rattle.std.proofs.{Math.Nat.pow-suc, lemmas.Fmt.decimal_digit, lemmas.Fmt.decimal_step}
 use Rattle.std.specs.Fmt.{decimal}
 
--- one more digit is written in front
+-- the last digit of the rest moves from the rest to the digits that are written
 pub digit_more : (n rest at : ℕ) (digits : List ℕ) → 10 ≤ rest → rest < 2 ^ 64 → at < length digits → get_or digits at 0 ≡ 48 + rest % 10
     → decimal n ≡ decimal rest ++ drop (at + 1) digits → decimal n ≡ decimal (rest / 10) ++ drop at digits
 digit_more n rest at digits many fits within last whole =
     let cell : drop at digits ≡ (48 + rest % 10) ∷ drop (at + 1) digits = rw (drop-cons digits at 0 within, add-one at, last) refl in
     rw (whole, decimal_step rest many fits, cell) (append_assoc (decimal (rest / 10)) ((48 + rest % 10) ∷ []) (drop (at + 1) digits))
 
--- the first digit is written last
+-- when the rest has one digit, the digits from its place on are the whole number
 pub digit_first : (n rest at : ℕ) (digits : List ℕ) → rest < 10 → at < length digits → get_or digits at 0 ≡ 48 + rest % 10
     → decimal n ≡ decimal rest ++ drop (at + 1) digits → drop at digits ≡ decimal n
 digit_first n rest at digits few within last whole =

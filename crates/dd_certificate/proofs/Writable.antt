@@ -1,5 +1,6 @@
 -- An output can hold the steps that refute a list of clauses, if variables, clauses and steps are few enough. The variables of the steps are in
--- range, and each clause that a step hints at or deletes comes before it.
+-- range, and each clause that a step hints at or deletes comes before it. The list `known` holds the clauses before a step: clause number k + 1 at
+-- index k, or `None` if it is deleted.
 use Rattle.std.proofs.Common.{◌≡◌, ℕ, zero, suc, ◌+◌, ◌<◌, ◌≤◌, Bool, true, false, not, ◌&&◌, ◌||◌, List, [], ◌∷◌, ◌++◌, length, map, Option, None, Some, is_some, slice_get, All, refl, sym, subst, ◌∙◌, ◌⊎◌, inl, inr, arith, nat_le, length-append}
 use Rattle.std.proofs.lemmas.Bool.{false≢true, leb-true, and_parts, or_cases}
 use Rattle.std.proofs.lemmas.List.{length-set, length-map, Elements.All-nil, Elements.All-cons}
@@ -28,13 +29,13 @@ alive known h (Some c) few is some = numbered known h c few is
 
 -- ---- hints
 
--- a hint that is used is the number of a known clause
+-- if hints end in a conflict, the first one is the number of a known clause
 hinted : (says : List Literal → Finding) (o : Option (List Literal)) (is_last : Bool) (next : Literal → Bool) →
     follow (option_map_or says o Open) is_last next ≡ true → is_some o ≡ true
 hinted says None is_last next goes_on = absurd (false≢true goes_on)
 hinted says (Some c) is_last next goes_on = refl
 
--- a used hint is the last one, or else it forces a literal and the hints after it are used
+-- if the hints end in a conflict, the first one is the last, or its clause forces a literal and the others end in a conflict
 followed : (says : Finding) (hints : List ℕ) (next : Literal → Bool) → follow says (is_empty hints) next ≡ true →
     (hints ≡ []) ⊎ ((l : Literal) × (next l ≡ true))
 followed Falsified [] next goes_on = inl refl

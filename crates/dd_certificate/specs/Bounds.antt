@@ -17,11 +17,11 @@ IsWritableNumber n = n ≤ most_number
 abbrev pub IsWritableSigned : ℤ → Type 0
 IsWritableSigned z = unsigned_abs z ≤ most_number
 
--- the denominator of a fraction: at least 1
+-- the denominator of a fraction: at least 1 and at most `most_number`
 abbrev pub IsWritableDenominator : ℕ → Type 0
 IsWritableDenominator n = (1 ≤ n) × (n ≤ most_number)
 
--- a clause number: clauses are numbered from 1
+-- a clause number, as a hint or a delete: clauses are numbered from 1
 abbrev pub IsWritableHint : ℕ → Type 0
 IsWritableHint n = (1 ≤ n) × (n ≤ most_count)
 
@@ -50,7 +50,7 @@ IsWritableList ns = (1 ≤ length ns) × All IsWritableNumber ns
 abbrev pub IsShearFor : List ℕ → ℕ → Type 0
 IsShearFor periods shear = (shear ≡ 0) ⊎ (2 ≤ length periods)
 
--- a periodic configuration, given by its periods, its shear and the symbols of its fundamental box, the box that repeats
+-- a periodic configuration, given by its periods (at most three), its shear and the symbols of its fundamental box, the box that repeats
 abbrev pub IsWritableConfiguration : List ℕ → ℕ → List ℕ → Type 0
 IsWritableConfiguration periods shear symbols =
     (length periods ≤ 3) × IsWritableList periods × IsWritableNumber shear × IsShearFor periods shear × IsWritableList symbols

@@ -31,7 +31,7 @@ pub enum Reason {
 pub struct Listed {
     /// The node's number, from 0.
     pub node: u64,
-    /// The numbers of the symbols, from 0, in the order of the cells that the rule reads at the node.
+    /// The numbers of the symbols, from 0: one for each cell that the rule reads at the node, in cell order.
     pub symbols: Items<u64>,
 }
 
@@ -41,8 +41,8 @@ pub struct Listed {
 pub struct Starred {
     /// The node's number, from 0.
     pub node: u64,
-    /// The numbers of the symbols, from 0, in the order of the cells that the rule reads at the node. The entry of a cell that
-    /// is left out is `None`.
+    /// The numbers of the symbols, from 0: one entry for each cell that the rule reads at the node, in cell order. The entry of
+    /// a cell that is left out is `None`.
     pub symbols: Items<Option<u64>>,
 }
 

@@ -4,7 +4,7 @@ ghost use Rattle.std.specs.Fmt.{decimal, signed_decimal};
 
 use std::alloc::AllocError;
 
-/// Appends the decimal digits of a number to a text, without a leading zero.
+/// Appends the decimal digits of a number to a text, without a leading zero. Fails only if memory runs out.
 pub fn push_decimal(text: &mut Vec<u8>, number: u64) -> Result<(), AllocError>
     ensures { OnOk result (text.new.items ≡ text.old.items ++ decimal number) }
 {

@@ -1,7 +1,8 @@
 //! Answers to queries with their certificates, and the texts of answers. A certificate is all that is needed to check an answer
 //! without a search. Some queries ask whether a claim holds, such as that one subshift contains another. Many certificates hold
 //! a refutation of some clauses: a list of steps that derive further clauses, up to the empty one. A rule reads a cell if its
-//! formula asks for the cell's symbol. Cell order is by z, then y, then x, then node.
+//! formula asks for the cell's symbol. Cell order is by z, then y, then x, then node. The box of radius n consists of the
+//! positions whose coordinates are from -n to n.
 //!
 //! Strips, their slices and their transfer graphs are defined in `dd_transfer`. Discharging, with its amounts and duals, is
 //! defined in `dd_discharge`. The page `docs/certificate.md` says which clauses a refutation refutes.

@@ -139,7 +139,7 @@ fn push_yes_both(text: &mut Vec<u8>, left: u64, right: u64) -> Result<(), AllocE
     Ok(())
 }
 
-/// Appends a shear, or nothing if it is 0.
+/// Appends the word `shear` and the shear, each after a space, or nothing if the shear is 0.
 fn push_shear(text: &mut Vec<u8>, shear: u64) -> Result<(), AllocError>
     ensures { OnOk result (text.new.items ≡ text.old.items ++ shear_text shear) }
 {

@@ -21,7 +21,7 @@ query_claims s q k l asks limits told a h =
     let certificate = subst (λ (o : Option Asked). IsSomeAnd o (λ j. IsCertificateOf s.known.limits j a)) asks h.1 in
     subst (λ (o : Option Asked). IsSomeAnd o (λ j. ClaimOf j a)) (sym asks) (told a (subst (λ (m : Limits). IsCertificateOf m k a) (sym limits) certificate))
 
--- the same for the first n queries
+-- the claim of each certificate for one of the first n queries is true
 abbrev pub AreTruthful : Parts → ℕ → Type 0
 AreTruthful s n = (number : ℕ) (a : Answer) → number - 1 < n → IsCertificate s number a → Claim s number a
 

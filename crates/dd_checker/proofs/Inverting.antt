@@ -1,4 +1,4 @@
--- What a CONJUGATE that is a certificate says about any configuration, even one that is a function on all cells of Z^d.
+-- What a CONJUGATE that is a certificate says about any configuration, periodic or not.
 use Rattle.std.proofs.Common.{◌≡◌, ℕ, ◌<◌, true, refl, sym, subst, ◌∙◌, Some, None}
 use Rattle.std.proofs.lemmas.Bool.{false≢true}
 use Rattle.std.specs.Prelude.{Option, IsSomeAnd, IfSome, slice_get}
@@ -98,7 +98,7 @@ module _ (s : Parts) (kept : IsScriptOf s) (nodes : ℕ) (symbol_of : Cell → �
       let ofg = of_item (IsAutomatonOf s.known.setting) (slice_get s.automata back) k.g (item_at kept.automata back) k.back in
       are_inverse k.from k.to k.there k.back (inverse k.x k.y k.f k.g ofx ofy off ofg a told k.says)
 
-  -- if what a CONJUGATE claims is true, the two automata are inverse maps at v
+  -- if what a CONJUGATE claims is true, the two automata are inverse maps at v, as `AreInverseIn` says
   pub inverse_law : (number : ℕ) (a : Answer) → is_conjugate a ≡ true → IsConjugacyAt s number → Claim s number a → AreInverseIn s number look v
   inverse_law number a told asks claim = at (query_at s number) asks claim
     where

@@ -1,4 +1,4 @@
--- What a YES that is a certificate says about any configuration, even one that is a function on all cells of Z^d.
+-- What a YES that is a certificate says about any configuration, periodic or not.
 use Rattle.std.proofs.Common.{◌≡◌, ℕ, ◌-◌, ◌<◌, Bool, true, false, List, refl, ap, sym, subst, ◌∙◌, arith, Some, None}
 use Rattle.std.proofs.lemmas.Bool.{and_from, lt-ltb, ltb-true, false≢true}
 use Rattle.std.proofs.lemmas.Option.{slice_get_within, get_or_from_slice_get}
@@ -22,7 +22,7 @@ use Rattle.dd_checker.specs.Lifted.{is_yes, whole_look, IsWhole, IsNotAt, IsAske
 use Rattle.dd_certificate.specs.declared.answer.Answer.TheVariants as answer
 use Rattle.dd_question.specs.Questions as question
 
--- if there is an item, P holds for it, and P implies Q for it, then Q holds for it
+-- if the option has an item for which P holds, and P implies Q for this item, then the option has an item for which Q holds
 pub some_then : {X : Type 0} (o : Option X) (P Q : X → Type 0) → ((x : X) → o ≡ Some x → P x → Q x) → IsSomeAnd o P → IsSomeAnd o Q
 some_then (Some x) P Q h p = h x refl p
 some_then None P Q h p = p
@@ -75,7 +75,7 @@ module _ (s : Parts) (nodes : ℕ) (symbol_of : Cell → ℕ) (whole : IsWhole s
     asked_not_at a both (question.equality x y) ok (says_equal {n = n} {m = m} left right) = of_equality (not_at x (breaks y) n ok.0 left) (not_at y (breaks x) m ok.1 right)
     asked_not_at _ _ _ ok claim = elim claim [ ]
 
-    -- if what a YES claims is true, the goal does not hold at v
+    -- if what a YES claims is true, and the configuration obeys the premise of its question, then the goal does not hold at v
     pub lifted_law : AreSound s → (number : ℕ) (a : Answer) → is_yes a ≡ true → Claim s number a → IsQueryNotAt s number look v
     lifted_law sound number a told h =
         some_then (query_at s number) (λ q. ClaimFor s q a) (λ q. IsSomeAnd (asked s q) (λ k. IsAskedNotAt k look v))

@@ -1,4 +1,4 @@
--- What a CONJUGATE says about any configuration, even one that is a function on all cells of Z^d.
+-- What a CONJUGATE says about any configuration, periodic or not.
 use Rattle.std.specs.Prelude.{ℕ, ◌≡◌, Bool, nat_eq, codes, Some, IsSomeAnd, slice_get}
 use Rattle.std.specs.List.{starts_with}
 use Rattle.dd_lattice.specs.Place.{Place}
@@ -13,7 +13,7 @@ use Rattle.dd_script.specs.{Parts.Parts, Questions.query_at}
 abbrev pub is_conjugate : Answer → Bool
 is_conjugate a = starts_with nat_eq (verdict_text a) (codes "CONJUGATE")
 
--- the query asks whether two automata are inverse maps between the configurations of two rules
+-- the query asks whether two automata are inverse maps between the configurations that obey one rule and those that obey another
 pub data IsConjugacy : Query → Type 0 where
   a_conjugacy : {there back from to : ℕ} → IsConjugacy (Query.Conjugate there back from to)
 
@@ -21,14 +21,14 @@ pub data IsConjugacy : Query → Type 0 where
 abbrev pub IsConjugacyAt : Parts → ℕ → Type 0
 IsConjugacyAt s number = IsSomeAnd (query_at s number) IsConjugacy
 
--- The image of the configuration under f gives each cell the value of f there. At each node of the position v, this image has an allowed symbol and
--- obeys y, and the value of g on the image is the configuration's symbol.
+-- The image of the configuration under f gives each cell the value of f there. At each node of the position v, the image has an allowed symbol, y is
+-- true of the image, and the value of g on the image is the configuration's symbol.
 pub record IsCarriedAt (y : LocalRule) (f g : Automaton) (look : Look) (v : Place) : Type 0 where
   pub keeps : AtEachNode y.nodes (KeepsAt f y look) v
   pub gives_back : AtEachNode y.nodes (GivesBackAt g f look) v
 
--- If the configuration obeys x everywhere, then, at v, f carries it to one that obeys y, and g carries this one back. If the configuration obeys y
--- everywhere, then, at v, g carries it to one that obeys x, and f carries this one back.
+-- If the configuration obeys x everywhere, then, at v, f carries it to one that obeys y, and g carries this one back (see `IsCarriedAt`). If the
+-- configuration obeys y everywhere, then, at v, g carries it to one that obeys x, and f carries this one back.
 pub record AreInverseAt (x y : LocalRule) (f g : Automaton) (look : Look) (v : Place) : Type 0 where
   pub there : Obeys x look → IsCarriedAt y f g look v
   pub back : Obeys y look → IsCarriedAt x g f look v
@@ -38,6 +38,6 @@ pub data AreInverseFor (s : Parts) (look : Look) (v : Place) : Query → Type 0 
   are_inverse : {there back from to : ℕ} {x y : LocalRule} {f g : Automaton} → slice_get s.rules from ≡ Some x → slice_get s.rules to ≡ Some y →
       slice_get s.automata there ≡ Some f → slice_get s.automata back ≡ Some g → AreInverseAt x y f g look v → AreInverseFor s look v (Query.Conjugate there back from to)
 
--- the same for the query with this number, counted from 1
+-- `AreInverseFor` holds for the query with this number, counted from 1
 abbrev pub AreInverseIn : Parts → ℕ → Look → Place → Type 0
 AreInverseIn s number look v = IsSomeAnd (query_at s number) (AreInverseFor s look v)

@@ -1,6 +1,5 @@
--- What a YES says about any configuration, even one that is a function on all cells of Z^d. A YES answers a box question, or the two box questions of
--- an equality. A box question has a rule, which is called its premise, and a goal: a property of a position, such as that another rule is broken
--- there.
+-- What a YES says about any configuration, periodic or not. A YES answers a box question, or the two box questions of an equality. A box question has
+-- a rule, which is called its premise, and a goal: a property of a position, such as that another rule is broken there.
 use Rattle.std.specs.Prelude.{ℕ, ◌≡◌, ◌<◌, Bool, true, cond, nat_eq, codes, Some, None, IsSomeAnd}
 use Rattle.std.specs.List.{starts_with}
 use Rattle.dd_lattice.specs.{Place.Place, declared.position.Cell.Cell}
@@ -38,6 +37,6 @@ pub data IsAskedNotAt : Asked → Look → Place → Type 0 where
   of_box : {x : LocalRule} {g : GoalOf} {look : Look} {v : Place} → IsNotAt x g look v → IsAskedNotAt (question.box x g) look v
   of_equality : {x y : LocalRule} {look : Look} {v : Place} → IsNotAt x (breaks y) look v → IsNotAt y (breaks x) look v → IsAskedNotAt (question.equality x y) look v
 
--- the same for the question of the query with this number, counted from 1
+-- `IsAskedNotAt` holds for the question of the query with this number, counted from 1
 abbrev pub IsQueryNotAt : Parts → ℕ → Look → Place → Type 0
 IsQueryNotAt s number look v = IsSomeAnd (query_at s number) (λ q. IsSomeAnd (asked s q) (λ k. IsAskedNotAt k look v))

@@ -21,8 +21,8 @@ pub(crate) fn query_certified(script: &Script, query: &Query)
     ensures { (answer : AnyAnswer) → IsCertificateFor script.now query.now answer → ClaimFor script.now query.now answer }
 {
     if asks_pairs(query) {
-        // The query asks whether pairs of automata agree. The script doesn't store these pairs, but its invariant says what has
-        // to be known about their automata.
+        // The query is about an image or a conjugacy, so its box questions are about pairs of automata. The script doesn't
+        // store these pairs, but its invariant says what the law requires of their automata.
         claims_hold_for_goals();
         script.sound_questions();
         // This call tells the proof what the type guarantees.
@@ -33,9 +33,10 @@ pub(crate) fn query_certified(script: &Script, query: &Query)
     }
 }
 
-/// Changes nothing. Its contract says that the claim of each certificate for a query of the script is true. The claim of a
-/// bound covers boxes of every side length at every position: a box weighs at least the number of its positions times the
-/// bound, less what it may receive from outside.
+/// Changes nothing. Its contract says that the claim of each certificate for a query of the script is true. For example, the
+/// answer BOUND gives a bound for a discharge, which is a plan for moving weight between positions. Its claim covers boxes of
+/// every side length at every position. In each configuration that obeys the rule, such a box weighs at least the number of its
+/// positions times the bound, less what it may receive from outside by the plan.
 pub fn certified(script: &Script)
     ensures { (number : ℕ) (answer : AnyAnswer) → IsCertificate script.now number answer → Claim script.now number answer }
 {
@@ -45,10 +46,11 @@ pub fn certified(script: &Script)
     }
 }
 
-/// Changes nothing and allocates nothing. Its contract says what a YES means for any configuration, even one that is a function
-/// on all cells of Z^d. The YES must be a certificate for the query with the number `_query`, counted from 1. This query asks
-/// one box question, or two if it is about equality. If the configuration obeys the premise of one of these questions at every
-/// position of Z^d, the goal of this question doesn't hold at `_place`.
+/// Changes nothing and allocates nothing. Its contract says what a YES means for any configuration, periodic or not. The
+/// configuration must have the script's number of nodes, and symbols that their nodes allow. `_place` must be a position of
+/// Z^d. The YES must be a certificate for the query with the number `_query`, counted from 1. This query asks one box question,
+/// or two if it is about equality. If the configuration obeys the premise of one of these questions, the goal of this question
+/// doesn't hold at `_place`.
 pub fn lifted<C: Configuration>(
     script: &Script,
     _query: u32,
@@ -67,11 +69,12 @@ pub fn lifted<C: Configuration>(
     certified(script);
 }
 
-/// Changes nothing and allocates nothing. Its contract says what a CONJUGATE means for any configuration, even one that is a
-/// function on all cells of Z^d. The CONJUGATE must be a certificate for the query with the number `_query`, counted from 1. If
-/// the configuration obeys the first rule at every position of Z^d, then at each node of `_place`:
-/// - its image under the first automaton has an allowed symbol and obeys the second rule;
-/// - the second automaton takes the image back to the configuration's symbol.
+/// Changes nothing and allocates nothing. Its contract says what a CONJUGATE means for any configuration, periodic or not. The
+/// configuration must have the script's number of nodes, and symbols that their nodes allow. `_place` must be a position of
+/// Z^d. The CONJUGATE must be a certificate for the query with the number `_query`, counted from 1, which must be about a
+/// conjugacy. If the configuration obeys the first rule of the query, then at each node of `_place`:
+/// - in the image under the first automaton, the symbol is allowed and the second rule is true;
+/// - in the image of this image under the second automaton, the symbol is the configuration's own.
 ///
 /// The same holds with the two rules exchanged, and the two automata exchanged.
 pub fn conjugate_at<C: Configuration>(

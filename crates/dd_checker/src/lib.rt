@@ -1,12 +1,21 @@
 //! Checks answers to the queries of scripts. A script defines rules, configurations and automata, and asks queries about them.
-//! A certificate is an answer with all that is needed to check it without a search. The specs say which answers are
-//! certificates, and what a certificate claims. The check makes no search and trusts none. An answer is accepted if it is a
-//! certificate and an output can hold it: its numbers and lists are within the bounds that `dd_certificate` states.
+//! A certificate is an answer with all that is needed to check it without a search. In this crate, a certificate for a query
+//! must also be an answer that an output can hold: its numbers and lists are within the bounds that `dd_certificate` states.
+//! The specs say which answers are certificates, and what a certificate claims. An answer is accepted exactly when it is a
+//! certificate for its query. The check makes no search and trusts none.
 //!
-//! Some queries are box questions. A box question has a rule, which is called its premise, and a goal: a property of a
+//! A cell is a position of Z^d together with one of its nodes. A configuration gives a symbol to each cell. A rule is a formula
+//! about a cell and the cells near it. It is broken at a position if it is false at one of the position's nodes. A
+//! configuration obeys a rule if the rule is true at every cell. An automaton maps configurations to configurations, their
+//! images.
+//!
+//! Some queries ask box questions. A box question has a rule, which is called its premise, and a goal: a property of a
 //! position, such as that another rule is broken there. It asks whether no configuration that obeys the premise has the goal at
-//! any position. A query about equality is two box questions. A query about a conjugacy names two rules and two automata, and
-//! asks whether the automata are inverse maps between the configurations of the rules. It is four box questions.
+//! any position. A query about equality asks whether the same configurations obey two rules. These are two box questions. A
+//! query about an image asks whether an automaton maps the configurations that obey one rule to configurations that obey
+//! another. This is one box question. A query about a conjugacy asks whether two automata are inverse maps between the
+//! configurations that obey one rule and those that obey another. These are four box questions. The answer CONJUGATE to such a
+//! query says yes to all four. The answer YES to any other query says yes to its one or two box questions.
 #![tactic(auto)]
 
 mod answering;

@@ -1,6 +1,5 @@
-//! Circuits and their gates. Each input and each gate has a variable. The variables are numbered from 1: first the inputs, and
-//! then the gates in order. So gates don't store their variables. The members of a gate are the signals that it combines:
-//! earlier variables or their opposites.
+//! Circuits and their gates. The variables are numbered from 1: first those of the inputs, and then those of the gates in
+//! order. So a gate doesn't store its variable. The members of a gate are signals of earlier variables.
 ghost use Rattle.std.specs.Prelude.{◌≡◌, ◌+◌, ◌<◌, ◌≤◌, ◌∷◌, ◌++◌, [], All, IfOk, OnErr};
 ghost use Rattle.dd_values.specs.Bounds.{most_variables};
 ghost use Rattle.dd_circuit.specs.Circuits.{IsSignal, IsGate, AreGates, size, signal_of, opposite};
@@ -42,7 +41,7 @@ pub enum Gate {
 }
 
 /// Inputs and gates. The inputs are the variables from 1 to `inputs`. The gates are numbered from 0. Gate k has the variable
-/// `inputs + 1 + k`, and its members are signals of earlier variables.
+/// `inputs + 1 + k`, and its members are signals of earlier variables. A circuit has at most 2^24 variables.
 #[derive(Debug, Drop)]
 pub struct Circuit {
     alloc: Global,

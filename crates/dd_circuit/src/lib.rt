@@ -1,4 +1,5 @@
-//! Boolean circuits: inputs, and gates over the inputs and over earlier gates.
+//! Boolean circuits: inputs, and gates over the inputs and over earlier gates. Each input and each gate has a variable. A
+//! signal is a variable or its opposite (its negation). A gate combines signals, its members.
 #![tactic(auto)]
 
 mod evaluation;

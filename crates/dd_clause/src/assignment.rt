@@ -51,7 +51,7 @@ fn has_true_literal(literals: &[Literal], values: &[bool]) -> bool
     false
 }
 
-/// Whether the assignment has one value for each variable, and makes each clause true. Allocates nothing.
+/// Whether the assignment has one value for each of the list's variables, and makes each clause true. Allocates nothing.
 pub fn satisfies(cnf: &Cnf, assignment: &Assignment) -> bool
     ensures { IsTrue result ↔
         (length assignment.now ≡ cnf.now.variables

@@ -27,7 +27,7 @@ impl Model for Cnf {
 }
 
 impl Cnf {
-    /// Makes an empty list over this many variables. Allocates nothing.
+    /// Makes an empty list over this many variables, at most 2^24. Allocates nothing.
     pub fn new(alloc: Global, variables: u32) -> Cnf
         requires { variables ≤ most_variables }
         ensures variables { result.variables ≡ variables }
@@ -62,7 +62,8 @@ impl Cnf {
         Ok(())
     }
 
-    /// Raises the number of variables to `variables`. The clauses stay as they are.
+    /// Raises the number of variables to `variables`, which must be at most 2^24 and no less than the present number. The
+    /// clauses stay as they are.
     pub fn widen(&mut self, variables: u32)
         requires more { self.old.variables ≤ variables }
         requires few { variables ≤ most_variables }

@@ -59,7 +59,7 @@ fn push_and_or(
     ensures ok { OnOk result (cnf.new.clauses
         ≡ cnf.old.clauses ++ spec.and_or_clauses gate members.now) }
 {
-    // the last clause: `gate` is true, or some member prevents this
+    // the last clause: `gate` is true, or some member makes it false
     let mut last = Vec::with_capacity(alloc, members.len() + 1)?;
     last.push(gate)?;
     for member in members {

@@ -6,7 +6,8 @@ use Rattle.dd_commands.specs.{Tree.Mark, Tree.Lexeme, Tree.Written, reading.Part
 use Rattle.dd_commands.specs.lemmas.Whole.{written_sound}
 use Rattle.dd_commands.specs.Scripts.{parts, stage_after, AreCommands, IsFirstBad, AreWritten, IsBadCommand}
 
--- The first component of `parts` is the list of tokens before the first `%`. The tokens after these have the same parts, with nothing before them.
+-- The first component of `parts` is the list of tokens before the first `%`. The tokens from this `%` on have the same parts, and nothing before
+-- them.
 pub cut : (tokens : List Lexeme) → let n = prefix_len is_inside tokens in
     ((parts tokens).0 ≡ take n tokens) × ((parts tokens).1 ≡ (parts (drop n tokens)).1) × ((parts (drop n tokens)).0 ≡ [])
 cut [] = (refl, refl, refl)
@@ -23,6 +24,9 @@ behind_mark (Lexeme.Mark Mark.Percent ∷ tokens) some none = refl
 behind_mark (t ∷ tokens) some none = absurd cc
 
 -- ---- what the remaining tokens say about all tokens
+-- The first `number` parts of the tokens have been read as the commands `cs`, and `rest` is left. The next command may have the stage `from` or a
+-- higher one. If `ws` are the commands of the rest, then `cs` followed by `ws` are all the commands. If the first bad part of the rest has the index
+-- `place`, from 0, then the first bad part of all has the number `number + place + 1`, from 1.
 pub record Sofar (bytes : List ℕ) (tokens rest : List Lexeme) (cs : List Written) (number from : ℕ) : Type 0 where
   pub at_mark : (parts rest).0 ≡ []
   pub written : (ws : List Written) → AreCommands bytes from (parts rest).1 ws → AreWritten bytes tokens (cs ++ ws)

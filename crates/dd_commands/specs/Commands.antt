@@ -56,7 +56,7 @@ pub record AreCases (bytes : List ℕ) (cases : List Case) (default : Name) (tok
 
 -- ---- queries
 
--- one vector without negative numbers
+-- the list is one vector without negative numbers
 abbrev pub IsOnePlain : List Vector → Type 0
 IsOnePlain vs = (v : Vector) × (vs ≡ v ∷ []) × (is_plain v ≡ true)
 
@@ -67,7 +67,7 @@ AreLists Lists.Strip vs = IsOnePlain vs
 AreLists Lists.Torus vs = IsOnePlain vs
 AreLists Lists.Vectors vs = 1 ≤ length vs
 
--- a query has the words, numbers and vectors that the row of its kind asks for
+-- the query has as many words and numbers, and such vectors, as the row of its kind asks for
 pub record IsRequest (r : Request) : Type 0 where
   pub words : length r.words ≡ length (row r.kind).names
   pub numbers : length r.numbers ≡ (row r.kind).numbers

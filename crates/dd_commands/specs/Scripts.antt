@@ -60,8 +60,8 @@ pub record MayStand (bytes : List ℕ) (from : ℕ) (part : List Lexeme) (w : Wr
   pub is : IsCommand bytes w.command part
   pub ordered : from ≤ stage_of w
 
--- The parts are these commands. The stage of the first command is at least `from`. The stage of each other command is at least
--- `stage_after` of the command before it.
+-- The parts are these commands, without stray tokens. The stage of the first command is at least `from`. The stage of each
+-- other command is at least `stage_after` of the command before it.
 abbrev pub AreCommands : List ℕ → ℕ → List (List Lexeme) → List Written → Type 0
 AreCommands bytes from [] [] = Unit {0}
 AreCommands bytes from [] (w ∷ ws) = ⊥
@@ -69,7 +69,7 @@ AreCommands bytes from (p ∷ ps) [] = ⊥
 AreCommands bytes from (p ∷ ps) (w ∷ ws) = MayStand bytes from p w × AreCommands bytes (stage_after w) ps ws
 
 -- This is the index, from 0, of the first bad part. A part is bad if it is not a command, if it has a stray token, or if its
--- command has a stage below the lowest that is allowed there. The command of a bad part is not well formed.
+-- command has a stage below the lowest that is allowed there. A bad part counts as a command that is not well formed.
 abbrev pub IsFirstBad : List ℕ → ℕ → List (List Lexeme) → ℕ → Type 0
 IsFirstBad bytes from [] place = ⊥
 IsFirstBad bytes from (p ∷ ps) zero = (w : Written) → MayStand bytes from p w → ⊥

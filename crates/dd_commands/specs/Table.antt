@@ -6,7 +6,7 @@ use Rattle.dd_commands.specs.Tree.{Role, Lists, QueryKind}
 pub record QueryRow : Type 0 where
   -- the first word
   pub word : List ℕ
-  -- what each of the words after it names
+  -- what each of the words after the first word names
   pub names : List Role
   -- how many numbers follow these words
   pub numbers : ℕ

@@ -19,7 +19,7 @@ pub struct Vector {
     pub entries: Items<Entry>,
 }
 
-/// An edge of a topology: `(label from [offset] to)`.
+/// An edge of a topology: `(label from [offset] to)`, where `from` and `to` are names of nodes.
 #[derive(Debug, Drop)]
 pub struct Edge {
     pub label: Word,
@@ -78,7 +78,8 @@ pub enum Command {
     Weights {
         weights: Items<Number>,
     },
-    /// `limits radius period pivots`: how far searches go, and how many pivots of the simplex method a discharge may take.
+    /// `limits radius period pivots`: limits on the radii and the periods that searches try, and on the number of pivots of the
+    /// simplex method in a discharging query.
     Limits {
         radius: Number,
         period: Number,
@@ -102,13 +103,13 @@ pub enum Command {
         inner: Word,
     },
     /// `conf name [period ..] [shear ..] symbol ..`: a periodic configuration. The shear may be left out. Neither vector has a
-    /// negative number.
+    /// negative number. The symbols are those of the box that repeats, in cell order: by z, then y, then x, then the node.
     Configuration {
         name: Word,
         periods: Vector,
         shear: Option<Vector>,
         symbols: Items<Name>,
     },
-    /// A query about rules, automata and configurations that are defined before it.
+    /// A query. Its words name rules, automata and configurations.
     Query(Request),
 }

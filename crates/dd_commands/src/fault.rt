@@ -8,8 +8,8 @@ use thiserror::Error;
 /// Why no syntax tree was read.
 #[derive(Clone, Copy, Debug, PartialEq, Eq, Error)]
 pub enum SyntaxFault {
-    /// The number, from 1, of the first command that is not well formed. It is 0 if some token stands before the first `%`.
-    /// A command that may not come where it stands counts as not well formed.
+    /// The number, from 1, of the first command that is not well formed. Such a command doesn't follow the grammar, or its
+    /// stage is too low for its place. The number is 0 if some token stands before the first `%`.
     #[error("command {command} is not well formed")]
     At { command: u32 },
     /// Memory ran out.

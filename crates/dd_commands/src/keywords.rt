@@ -1,4 +1,4 @@
-//! The first words of commands, the order of commands, and the names of topologies.
+//! The first words of commands, the order of commands, and the names of the built-in topologies.
 ghost use Rattle.std.specs.Prelude.{◌≡◌, ◌≤◌};
 ghost use Rattle.dd_written.specs.reading.Readers.{Gives};
 ghost use Rattle.dd_commands.specs.Heads.{head_row, head_text, next_stage, kind_text};

@@ -1,7 +1,14 @@
-//! The syntax trees of scripts and their commands, and how they are read from bytes. Tokens are the lexemes of `dd_written`. A
-//! command is a `%`, a first word, and a body, which is all that follows. The first word determines the head and the stage of
-//! the command. The head says which command it is. The stage is a number: no command may follow one of a higher stage. Some
-//! commands are queries. For each kind of query, a row of a table says what follows the first word.
+//! The syntax trees of scripts and their commands, and how they are read from bytes. Tokens are the lexemes of `dd_written`.
+//! The token `Stray` stands for all bytes from the first one that isn't allowed. A reader takes an item from the front of a
+//! list of tokens.
+//!
+//! A command is a `%`, a first word, and a body, which is all that follows up to the next `%`. The first word determines the
+//! head and the stage of the command. The head says which command it is. The stage is a number: no command may follow one of a
+//! higher stage. Some commands are queries. For each kind of query, a row of a table says what follows the first word.
+//!
+//! A vector is a list of integers in brackets. A periodic configuration has a vector of periods, one for each axis. The box
+//! with these side lengths repeats. The configuration may have a shear too: each time the box repeats along y, it moves along x
+//! by the shear.
 #![tactic(auto)]
 
 mod bodies;

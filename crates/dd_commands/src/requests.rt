@@ -1,4 +1,4 @@
-//! Reads queries. The row of a query's kind, in the table of queries, says what follows its first word.
+//! Reads queries. For each kind of query, a row of the table of queries says what follows the first word.
 ghost use Rattle.std.specs.Prelude.{◌≡◌};
 ghost use Rattle.dd_written.specs.reading.Readers.{Gives};
 ghost use Rattle.dd_commands.specs.declared.head.Head.TheVariants as head;

@@ -83,7 +83,7 @@ fn are_whole(part: &[Lexeme]) -> bool
     part.iter().all(|token| !matches!(token, Lexeme::Stray))
 }
 
-/// Reads this part as a command. Its stage must be at least `from`, and no token of the part may be `Stray`.
+/// Reads this part as a command. The command's stage must be at least `from`, and no token of the part may be `Stray`.
 fn command_from(source: Source, from: u32, part: &[Lexeme]) -> Result<Written, ReadFault>
     ensures { Gives (λ x. x) result (written_of source.entry.bytes.now from part.now) }
 {

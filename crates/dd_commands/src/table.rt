@@ -21,16 +21,16 @@ pub enum Role {
 pub enum Lists {
     /// No vector.
     None,
-    /// The periods of a strip: one vector without negative numbers.
+    /// The periods of a strip, along all axes but x: one vector without negative numbers.
     Strip,
-    /// The periods of a torus: one vector without negative numbers.
+    /// The periods of a torus, along all axes: one vector without negative numbers.
     Torus,
     /// One vector or more.
     Vectors,
 }
 
 /// The kinds of queries, each with its form. X and Y are rules, f and g are automata, c is a configuration, and r and m are
-/// numbers.
+/// numbers. The page `docs/guide.md` explains each query.
 #[derive(Clone, Copy, Debug, PartialEq, Eq)]
 pub enum QueryKind {
     /// `member c X`: does the configuration obey the rule?
@@ -47,13 +47,14 @@ pub enum QueryKind {
     Maps,
     /// `conjugate f g X Y`: are f and g inverse maps between the configurations that obey X and those that obey Y?
     Conjugate,
-    /// `forbidden X`: which fillings of the cells that it reads does the rule forbid?
+    /// `forbidden X`: which fillings of the cells that X reads does X forbid?
     Forbidden,
-    /// `minimal X`: which minimal patterns together forbid what the rule forbids?
+    /// `minimal X`: which patterns without needless cells forbid what X forbids?
     Minimal,
     /// `density X [5]`: what is the least density that the rule allows on a strip with these periods?
     Density,
-    /// `least X [3 3]`: what is the least weight of a configuration that obeys the rule and has these periods?
+    /// `least X [3 3]`: of the configurations that obey X and have these periods, what is the least weight of the box that
+    /// repeats?
     Least,
     /// `discharge X r m [1 0] ..`: what is the best lower bound for the density by discharging, with radius r, margin m and
     /// these vectors?
@@ -65,7 +66,7 @@ pub enum QueryKind {
 pub struct QueryRow {
     /// The first word.
     pub word: &'static [u8],
-    /// What each of the words after it names.
+    /// What each of the words after the first word names.
     pub names: &'static [Role],
     /// How many numbers follow these words.
     pub numbers: usize,

@@ -57,7 +57,8 @@ comes_after at cs i cell there cells up below is placed are =
     (All-weaker (λ d. cell_cmp d cell ≡ Less) (λ d. cell_cmp (shifted at.position d) there ≡ Less)
     (λ d h. ap (cell_cmp (shifted at.position d)) placed ∙ (shifted_cmp at d cell ∙ h)) (take i cs) (before cs i cell up below is)))
 
--- What a composition reads is what its inner automaton reads at the cells that its outer automaton reads.
+-- If the cells that a composition reads have their signals, so have those that its inner automaton reads at each cell of cs, the cells that the outer
+-- automaton reads. They are the same cells.
 pub inner_wired : (n k : ℕ) (w : Wiring) (f g : Automaton) (at : Cell) (cs : List Cell) → cs ≡ cells_of f at.node → are_wired_there n k w ((counted (v.Composed f g)).reads at.node) at ≡ true → AreWired n k w g cs at
 inner_wired n k w f g at cs is h =
     let q : Cell → Bool = λ e. are_signals n k (signals_of w (shifted at.position e)) in
@@ -73,7 +74,8 @@ inner_wired n k w f g at cs is h =
     ∙ (list_all-alike test (λ c. list_all q (there c)) same reads
     ∙ (sym (list_all-flat_map q there reads) ∙ (sym (ap (λ (x : Counted). list_all q (x.reads at.node)) (counted_composed f g)) ∙ h))))
 
--- A search for a cell whose value has been made finds the signals of this value.
+-- o is a list of signals that say what the automaton's value at c is; `found_in` shows this for the list that a search for a cell finds, once the
+-- gates of the values are there
 abbrev Found : Network → Wiring → ℕ → Automaton → Cell → Option (List Signal) → Type 0
 Found circuit w k g c o = (ss : List Signal) × (o ≡ Some ss) × IsValued circuit w k g c ss
 
@@ -131,7 +133,8 @@ inner_tells set w f g at look read d there e t y among wire =
     (Contains-map (shifted d.position) ((counted g).reads d.node) e among) in
     read (shifted d.position e) t y member (ap (λ c. wire_of w c t) same ∙ wire) ∙ ap (λ c. is_symbol t (look c)) same
 
--- The inner values are made first, and then the outer value over them.
+-- Once the gates of the inner values are there, the cells that the outer automaton reads have their signals. Signals that say what the outer value
+-- over these values is then say what the composition's value is.
 module _ (k : ℕ) (f g : Automaton) (w : Wiring) (at : Cell) (start one : Network) (values : Wiring) (cs : List Cell) (is : cs ≡ cells_of f at.node) (are : AreValues one w k g cs at values) where
   found : (d : Cell) → Contains (cells_of f at.node) d → Found one w k g (shifted at.position d) (signals_of values (shifted at.position d))
   found d there =

@@ -80,8 +80,8 @@ get_left [] ys j h = absurd (omega arith)
 get_left (x ∷ xs) ys zero h = refl
 get_left (x ∷ xs) ys (suc j) h = get_left xs ys j (omega arith)
 
--- Each cell has a row of m items. The rows of all cells are joined into one list, after n other items. The signal of the symbol s of a cell has some
--- variable k + 1, and the item at index k of this list is the item at index s of the cell's row.
+-- Each cell has a row of m items. The rows of all cells are joined into one list, after n other items. In `signals_in_turn m n cs`, the signal of a
+-- cell for the symbol s has some variable k + 1, and the item at index k of the joined list is the item at index s of the cell's row.
 pub own_read : (m n : ℕ) (cs : List Cell) (row : Cell → List Signal) (before : List Signal) → length before ≡ n → ((i : ℕ) (d : Cell) → i < length cs → length (row (get_or cs i d)) ≡ m) →
     (i s : ℕ) (d : Cell) → i < length cs → s < m →
     (k : ℕ) × (signal_for (slice_get (signals_in_turn m n cs) i) s ≡ Some (signal_of (suc k))) × (slice_get (before ++ flat_map row cs) k ≡ slice_get (row (get_or cs i d)) s)

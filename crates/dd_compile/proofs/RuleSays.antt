@@ -18,7 +18,7 @@ use Rattle.dd_compile.specs.Compiling.{Extends, wire_or_zero, certain, is_wire, 
 use Rattle.dd_compile.specs.{RuleSignals.TellsReads, RuleSignals.SaysTruth, lemmas.MadeSays.made_says}
 use Rattle.dd_values.specs.lemmas.Lists.{members_pass}
 
--- whether a cell is one of the cells cs, which a rule reads at a node of the origin
+-- whether the cell d is one of the cells cs
 abbrev pub is_among : List Cell → Cell → Bool
 is_among cs d = list_any (λ x. is_eq (cell_cmp x d)) cs
 
@@ -36,7 +36,8 @@ told n set true None value h tell = absurd (cc)
 told n set true (Some x) value h tell = tell x refl
 told n set false o value h tell = absurd (cc)
 
--- The added gates alone decide what the signal says.
+-- Under every assignment that gives the rule's gates their values and tells the symbols that the rule reads at c, the signal says whether the rule is
+-- true at c. The other gates of a circuit don't matter.
 pub rule_says : (n : ℕ) (w : Wiring) (r : LocalRule) → 1 ≤ r.symbols → (c : Cell) → are_wired n (wires_near w c.position) (expansion_at r c.node) ≡ true →
     (set : ℕ → Bool) (look : Look) → agrees set n (compiled w c.position (expansion_at r c.node) n).gates ≡ true → HasSymbolsBelow r.symbols look → TellsReads set w r c look →
     signal_value set (compiled w c.position (expansion_at r c.node) n).signal ≡ is_true r c look

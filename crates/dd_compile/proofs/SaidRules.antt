@@ -26,7 +26,7 @@ use Rattle.dd_compile.specs.lemmas.{StillWired.still_wired, ChoiceLaws.fresh_in_
 use Rattle.dd_compile.proofs.{CompiledLaws.compiled_fits, RuleSays.rule_says, Composed.cases_say}
 use Rattle.dd_formula.specs.declared.automaton.Automaton.TheVariants as v
 
--- for the gates of a value, the variables before them may be taken as the inputs of a circuit of these gates alone
+-- to show `IsMadeValue`, the n variables before the gates may be taken as the inputs of a circuit of these gates alone
 pub of_network : (n k : ℕ) (f : Automaton) (w : Wiring) (at : Cell) (gs : List Gate) (ss : List Signal) (m : AllMade) → AreGates n gs → SaysValue (record { inputs = n; gates = gs }) w k f at ss →
     All (IsSignal (n + length gs)) ss → gs ≡ m.gates → ss ≡ m.signals → IsMadeValue n k f w at m
 of_network n k f w at gs ss m fit says in_range gates signals =
@@ -106,7 +106,7 @@ symbols_fit m xs fs all (suc k) j n le =
     let up : (x : Signal) → IsSignal m x → IsSignal n x = λ x h. (h.0, (let top = h.1 in omega (arith, top, le))) in
     (giving_in_range n j xs fs (All-weaker (IsSignal m) (IsSignal n) up fs all), symbols_fit m xs fs all k (j + 1) (suc n) (omega arith))
 
--- the law for an automaton that is given by cases
+-- the law `SaysNear` for an automaton that is given by cases
 pub given_says : (c : Cases) → All (λ (x : LocalRule × ℕ). IsRule x.0) c.cases → SaysNear (v.Given c)
 given_says c kept s ok w at n node near wired =
     let k = s.symbols in

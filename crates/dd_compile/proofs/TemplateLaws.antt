@@ -104,7 +104,7 @@ module _ (r : LocalRule) (rule : IsRule r) (a : ℕ) (exists : a < r.nodes) wher
         own_leaf d s (among cells d both.0) (ltb-true s r.symbols both.1))
         passes (own_count r a) n 0 (omega (arith, table_count)) (omega arith)
 
--- A template has few inputs.
+-- A template has at most 320,000 inputs. Together with its gates they fit into a circuit, and this circuit is as `IsTemplate` says.
 module _ (r : LocalRule) (rule : IsRule r) (a : ℕ) (exists : a < r.nodes) (cs : List Cell) (m : ℕ) (read : cs ≡ cells_at r a) (all : m ≡ r.symbols) where
   pub few_cells : length cs ≤ 20000
   few_cells = omega (arith, ap length read, few_reads r rule.symbols.0 a, rule.small a exists)

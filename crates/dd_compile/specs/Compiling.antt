@@ -97,7 +97,7 @@ wire_or_zero (Some s) = s
 abbrev pub certain : Wires → Cell → ℕ → Signal
 certain wires c s = wire_or_zero (wires c s)
 
--- the gates of an expansion, or of several, at the position v
+-- the signal and the gates of an expansion, or of several, over the wiring w, where the cells of the leaves are relative to the position v
 abbrev pub compiled : Wiring → Place → Expanded → Maker
 compiled w v = made (certain (wires_near w v))
 

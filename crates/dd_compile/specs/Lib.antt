@@ -4,7 +4,7 @@ pub mod Wiring
 pub mod Compiling
 -- the signals of the cells that a rule reads, and what the signal of the rule's gates says
 pub mod RuleSignals
--- templates: a rule at one of its nodes, whose gates are placed at one cell after another
+-- templates: a rule and one of its nodes, with gates that are placed at one cell after another
 pub mod Templates
 -- the gates of the value of an automaton
 pub mod ValueGates

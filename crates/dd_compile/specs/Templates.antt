@@ -1,5 +1,5 @@
--- Templates, which contracts see as a rule and one of its nodes. The gates of a template are placed at one cell after another, and each of these
--- cells has this node.
+-- Templates. Contracts see a template as a pair: a rule, and one of its nodes. The gates of a template are placed at one cell after another, and each
+-- of these cells has this node.
 use Rattle.std.specs.Prelude.{ℕ}
 use Rattle.dd_formula.specs.LocalRule.{LocalRule}
 

@@ -19,7 +19,8 @@ fresh n (suc k) = signal_of (suc n) ∷ fresh (suc n) k
 abbrev pub rules_made : Wiring → Cell → List (LocalRule × ℕ) → ℕ → AllMade
 rules_made w at cases n = all_made (map (λ case. compiled w at.position (expansion_at case.0 at.node)) cases) n
 
--- the choices: for each case a gate that says that the case's rule is true and no earlier rule is, and then a gate that says that no rule is true
+-- the choices: for each case a gate that says that the case's rule is true and no earlier rule is, and then a gate that says that no rule is true;
+-- `before` has the signals of the rules before these
 abbrev pub choices : List Signal → List Signal → List Gate
 choices before [] = And (map opposite before) ∷ []
 choices before (l ∷ ls) = And (l ∷ map opposite before) ∷ choices (before ++ l ∷ []) ls
@@ -57,7 +58,7 @@ pub record WiredMade : Type 0 where
   pub wiring : Wiring
   pub gates : List Gate
 
--- adds the cells to the wiring v, one after the other, each with the signals of its value over the wiring w
+-- adds the cells to the wiring v, one after the other, each with the signals of the value that g makes at the cell over the wiring w
 abbrev pub inner_made : ValueMaker → Wiring → Wiring → List Cell → ℕ → WiredMade
 inner_made g w v [] n = record { wiring = v; gates = [] }
 inner_made g w v (c ∷ cs) n =

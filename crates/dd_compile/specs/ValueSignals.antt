@@ -1,6 +1,8 @@
--- The signals of the cells that an automaton reads, and what the signals of its value say. Common numbers are the dimension, the
--- number of nodes and the size of the alphabet that several rules or automata share. An assignment, `set`, gives variables their
--- truth values. A look-up, `look`, gives cells symbols of the alphabet.
+-- The signals of the cells that an automaton reads, and what the signals of its value say. Common numbers (a setting) are the dimension, the number
+-- of nodes and the size of the alphabet that several rules or automata share. Cases fit common numbers if each of their rules has these numbers, and
+-- if the symbols of the cases and the symbol `otherwise` are in the alphabet. An automaton is well formed over common numbers if its cases, or those
+-- of all its parts, fit them, and if it and its parts are within the limits on instances, reach and depth. An assignment, `set`, gives variables
+-- their truth values. A look-up, `look`, gives cells symbols of the alphabet.
 use Rattle.std.specs.Prelude.{ℕ, ◌≡◌, ◌<◌, ◌==◌, Bool, true, List, Some, length, map, slice_get}
 use Rattle.std.specs.List.{Contains, list_all}
 use Rattle.dd_lattice.specs.{Cells.shifted, declared.position.Cell.Cell}
@@ -26,7 +28,7 @@ pub record HasSymbols (f : Automaton) (k a : ℕ) : Type 0 where
   pub below : a < setting.nodes
   pub all : setting.symbols ≡ k
 
--- each of these cells, which are relative to c, has one signal for each of k symbols, and the variables of these signals are among 1..n
+-- each of these cells, which are relative to c, has its signals: one for each of k symbols, with variables among 1..n
 abbrev pub are_wired_there : ℕ → ℕ → Wiring → List Cell → Cell → Bool
 are_wired_there n k w ds c = list_all (λ d. are_signals n k (signals_of w (shifted c.position d))) ds
 
@@ -44,8 +46,8 @@ pub record AreCasesWired (n : ℕ) (w : Wiring) (c : Cases) (at : Cell) : Type 0
   pub below : at.node < setting.nodes
   pub wired : are_wired_there n setting.symbols w (cases_reads c.cases at.node) at ≡ true
 
--- Under every assignment that gives the circuit's gates their values and tells the symbols that the cases read at the cell `at`, the signals say
--- whether the rules of the cases in the list `some` are true there.
+-- Under every assignment that gives the circuit's gates their values and tells the symbols that the cases read at the cell `at`, the signals say, in
+-- order, whether the rule of each case in the list `some` is true at `at`.
 abbrev pub CasesSay : Network → Wiring → Cases → Cell → List (LocalRule × ℕ) → List Signal → Type 0
 CasesSay circuit w c at some signals =
     (s : CommonNumbers) (set : ℕ → Bool) (look : Look) → cases_fit s c.cases c.otherwise ≡ true → agrees set circuit.inputs circuit.gates ≡ true → HasSymbolsBelow s.symbols look →

@@ -1,5 +1,5 @@
-//! The gates of an automaton's value at a cell. For a composition of two automata, the signals of the inner automaton's values
-//! are the inputs of the outer automaton's gates.
+//! The gates of an automaton's value at a cell. A composition applies an outer automaton to the image of a configuration under
+//! an inner automaton. So the signals of the inner automaton's values are the inputs of the outer automaton's gates.
 ghost use Rattle.std.specs.Prelude.{ℕ, ◌≡◌, ◌≤◌, ◌+◌, ◌-◌, ◌*◌, ◌++◌, true, All, IfOk, length, map, max};
 ghost use Rattle.std.specs.List.{list_all};
 ghost use Rattle.std.specs.List.Sorted.{IsStrictlySortedBy};
@@ -27,11 +27,12 @@ use dd_lattice;
 use dd_lattice::{Position, shift};
 use std::alloc::{AllocError, Global};
 
-/// Adds the gates of the automaton's value at the cell `at`, over an alphabet of `symbols` symbols. Returns, for each symbol,
-/// the signal that says that this symbol is the value at `at`. If memory runs out, gates may have been added.
+/// Adds the gates of the automaton's value at the cell `at`, over an alphabet of `symbols` symbols. Returns the signals of the
+/// value, numbered from 0: signal `s` says that the value at `at` is the symbol `s`. If memory runs out, gates may have been
+/// added.
 ///
 /// For a composition, first come the gates of the inner automaton's value at each cell that the outer automaton reads, in cell
-/// order. Then come the gates of the outer automaton's value, with the signals of these values as their inputs.
+/// order. Then come the gates of the outer automaton's value, with the signals of the inner values as their inputs.
 pub fn compile_value(
     circuit: &mut Circuit,
     alloc: Global,
@@ -61,8 +62,9 @@ pub fn value_gates(_automaton: &Automaton, _symbols: u32)
         length (value_made _symbols _automaton.now w at n).gates ≤ value_clauses _symbols _automaton.now at.node }
 {}
 
-/// The same as `compile_value`, for any cell so near the origin that the automaton and its parts read only cells in range. The
-/// automaton's depth (how deep its compositions are nested) says how near that is.
+/// The same as `compile_value`, but for each cell at least 16 * (d + 1) from the border of the range of positions, where d is
+/// the automaton's depth (how deep its compositions are nested). A composition takes its inner automaton's values at cells at
+/// most 16 away, and the parts, too, read at most 16 away. So only cells in range are read.
 #[cycle(compile_near)]
 fn compile_near(
     circuit: &mut Circuit,

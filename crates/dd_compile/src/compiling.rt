@@ -1,6 +1,7 @@
-//! The gates of an expansion: one for each constant, conjunction, disjunction and equivalence in it. Leaves and negations have
-//! no gates. A leaf says that a cell has a certain symbol, and its signal is the wire of that cell and symbol. The signal of a
-//! negation is the opposite of the signal that it negates.
+//! The gates of an expansion, and its signal, which says whether the expansion is true. Each constant, conjunction, disjunction
+//! and equivalence has a gate, and the signal of this gate. Leaves and negations have no gates. A leaf says that a cell has a
+//! certain symbol, and its signal is the wire of that cell and symbol. The signal of a negation is the opposite of its part's
+//! signal.
 ghost use Rattle.std.specs.Prelude.{◌≡◌, ◌≤◌, ◌+◌, ◌++◌, true, All, IfOk};
 ghost use Rattle.dd_values.specs.Bounds.{most_variables};
 ghost use Rattle.dd_circuit.specs.Circuits.{IsSignal, size};
@@ -63,8 +64,8 @@ fn are_wired(circuit: &Circuit, parts: &[Expanded], at: &Position, inputs: &Inpu
     true
 }
 
-/// Adds the gates of the expansion at the position `at`, and returns the expansion's signal. If memory runs out, gates may have
-/// been added.
+/// Adds the gates of the expansion, whose cells are relative to `at`, and returns the expansion's signal. Each leaf must have
+/// its wire, as `is_wired` tests. If memory runs out, gates may have been added.
 #[cycle(compile)]
 pub fn compile_expanded(
     circuit: &mut Circuit,

@@ -5,18 +5,19 @@ ghost use Rattle.dd_compile.specs.Valued.{SaysNear, SaysItsValue};
 
 use dd_formula::{Automaton, Cases};
 
-/// Does nothing. Its contract says that the rules of the cases satisfy the invariant of rules.
+/// Does nothing. Its contract says that the rule of each case satisfies the invariant of the type `Rule`.
 fn rules_are_kept(cases: &Cases)
     ensures { All (λ case. IsRule case.0) cases.now.cases }
 {
     for (rule, _) in cases.cases.as_slice() {
-        // This call tells the proof that the rule satisfies the invariant of rules.
+        // This call tells the proof that the rule satisfies the invariant of its type.
         let _nodes = rule.nodes();
     }
 }
 
-/// Does nothing. Its contract is the law for any cell so near the origin that the automaton and its parts read only cells in
-/// range. The automaton's depth (how deep its compositions are nested) says how near that is.
+/// Does nothing. Its contract is the law for each cell at least 16 * (d + 1) from the border of the range of positions, where d
+/// is the automaton's depth (how deep its compositions are nested). That is far enough for the automaton and its parts to read
+/// only cells in range.
 fn says_near(automaton: &Automaton)
     ensures { SaysNear automaton.now }
 {
@@ -31,9 +32,9 @@ fn says_near(automaton: &Automaton)
 }
 
 /// Does nothing. Its contract is the law for each cell at least 2048 from the border of the range of positions. Any number of
-/// variables may come before the gates of the automaton's value. If each cell that the automaton reads there has a signal of
-/// these variables for each symbol, then each gate is over earlier variables, and the signals of the value say which symbol the
-/// value is.
+/// variables may come before the gates of the automaton's value at the cell. If each cell that the automaton reads for this
+/// value has a signal of these variables for each symbol, then each gate is over earlier variables, and the signals of the
+/// value say which symbol the value is.
 pub fn says_its_value(automaton: &Automaton)
     ensures { SaysItsValue automaton.now }
 {

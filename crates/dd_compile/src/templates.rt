@@ -25,10 +25,10 @@ use dd_lattice::{Cell, Position, shift};
 use std::alloc::{AllocError, Global};
 use std::marker::Model;
 
-/// The gates of a rule at one of its nodes, to be placed at that node of any position. The template has a circuit of its own
-/// for them. This circuit has an input for each symbol of each cell that the rule reads at that node of the origin. These cells
-/// are numbered from 0 in cell order: symbol `s` of cell `k` has the variable `1 + k * symbols + s`, where `symbols` is the
-/// size of the alphabet.
+/// The gates of a rule at one of its nodes, to be placed at that node of one position after another. The template has a circuit
+/// of its own for them. This circuit has an input for each symbol of each cell that the rule reads at that node of the origin.
+/// These cells are numbered from 0 in cell order: symbol `s` of cell `k` has the variable `1 + k * symbols + s`, where
+/// `symbols` is the size of the alphabet.
 #[derive(Debug, Drop)]
 pub struct Template<'a> {
     rule: &'a Rule,
@@ -134,7 +134,7 @@ fn signals_there(
 
 /// The signal that replaces `signal`, a signal of a template. The template's inputs are replaced, in order, by the signals
 /// `inputs`. The variables of the template's gates are replaced, in order, by the variables that follow the first `before`
-/// variables.
+/// variables. The opposite of a variable is replaced by the opposite of the signal that replaces the variable.
 fn placed(signal: Signal, inputs: &[Signal], before: u32) -> Signal
     requires signal { IsSignal most_variables signal }
     requires before { before ≤ most_variables }

@@ -1,8 +1,8 @@
 //! The gates of the value, at a cell, of an automaton that is given by cases. A case has a rule and a symbol. The value is the
 //! symbol of the first case whose rule is true, or the symbol `otherwise` if no rule is true. The gates are added in three
 //! steps. First come the gates of the cases' rules. Then comes a gate for each choice. Each case has a choice, which gives the
-//! case's symbol. It is true if the case is the first whose rule is true. One more choice, the last, gives the symbol
-//! `otherwise`. It is true if no rule is true. So exactly one choice is true. Last comes a gate for each symbol, which says
+//! case's symbol. The choice is true if the case is the first whose rule is true. One more choice, the last, gives the symbol
+//! `otherwise`, and is true if no rule is true. So exactly one choice is true. Last comes a gate for each symbol, which says
 //! that some choice that gives this symbol is true.
 ghost use Rattle.std.specs.Prelude.{◌≡◌, ◌≤◌, ◌+◌, ◌-◌, ◌++◌, [], true, All, IfOk, length};
 ghost use Rattle.dd_lattice.specs.Place.{most_coordinate};
@@ -22,8 +22,8 @@ use dd_lattice::Cell;
 use std::alloc::{AllocError, Global};
 
 /// Adds the gates of the value, at the cell `at`, of the automaton that these cases give, over an alphabet of `symbols`
-/// symbols. Returns, for each symbol, the signal that says that this symbol is the value. If memory runs out, gates may have
-/// been added.
+/// symbols. Returns the signals of the value, numbered from 0: signal `s` says that the value is the symbol `s`. If memory runs
+/// out, gates may have been added.
 pub fn compile_cases(
     circuit: &mut Circuit,
     alloc: Global,

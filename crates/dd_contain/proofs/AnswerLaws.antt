@@ -1,4 +1,5 @@
--- The law of the three answers. It rests on the law of one box: if a radius suffices, all larger ones do, and no configuration shows the goal.
+-- The law of the three answers. It rests on the law of one box: if a radius suffices and its box holds what the goal reads at the origin, all larger
+-- radii suffice, and no configuration shows the goal.
 use Rattle.std.proofs.Common.{◌≡◌, ℕ, ◌≤◌, ◌||◌, ◌&&◌, Bool, true, false, refl, subst, arith}
 use Rattle.std.specs.Prelude.{max, nat_lt}
 use Rattle.dd_derivation.specs.Derivations.{IsRefuting}

@@ -36,7 +36,7 @@ module _ (x : LocalRule) (g : GoalOf) (n p least : ℕ) (rule : IsRule x) (ok : 
     few = fewer x g (max n least) p (tile_volume q) (torus_up x.dimension (max n least) p q rule.dimension.0 rule.dimension.1 within) (small least is);
   }
 
-  -- what the search finds is the decision
+  -- a right decision over the radii from `least` to `most` is a right decision within the limits n and p
   pub decided : (most : ℕ) → most ≡ max n least → (decision : Decision) →
       IsDecidedBy (Suffices x g) (RefutesByNumbers x g) (ShowsAt x g) (Displays x g) least most x.dimension p decision → IsDecided x g n p decision
   decided most top decision by = (

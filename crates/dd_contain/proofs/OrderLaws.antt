@@ -17,17 +17,19 @@ periods_total =
     (on_total (λ (p : Periods). p.z) nat_cmp_total))
     (on_total (λ (p : Periods). p.shear) nat_cmp_total)
 
--- nothing is before itself, and no two items are each before the other
+-- no periods come before themselves
 never_itself : (p : Periods) → IsBefore p p → ⊥
 never_itself p before = let tied = tied_itself periods_total p in absurd (cc (tied, before))
 
+-- no two periods each come before the other
 never_back : (p q : Periods) → IsBefore p q → IsBefore q p → ⊥
 never_back p q one other = never_itself p (periods_total.trans p q p one other)
 
--- an item of the list and its index
+-- each item of the list stands at some index
 listed : (ps : List Periods) (q : Periods) → Contains ps q → (k : ℕ) × (k < length ps) × (slice_get ps k ≡ Some q)
 listed ps q there = (there.0, there.1, slice_get_read ps (length ps) there.0 q refl there.1 (sym there.2))
 
+-- what stands at an index is an item of the list
 item : (ps : List Periods) (k : ℕ) (q : Periods) → slice_get ps k ≡ Some q → Contains ps q
 item ps k q stands = (k, slice_get_within ps k q stands, get_or_from_slice_get ps k q q stands)
 

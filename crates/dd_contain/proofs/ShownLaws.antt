@@ -13,7 +13,7 @@ module _ (x : LocalRule) (g : GoalOf) (p : Periods) (clauses : List (List Litera
       let shown = shows.each set satisfied in
       one_each_read x p set shown.0 shown.2.tile shown.1 shown.2.fits shown.3
 
-  -- what is read is the configuration that the assignment stands for
+  -- the configuration that is read from a satisfying assignment has these periods, lives in the premise's subshift and has the goal at the origin
   pub read_shows : (set : ℕ → Bool) → Satisfies set clauses → (t : Tile) → IsTile t → HasPeriods p t → Fits x t →
       ((u : Tile) → HasPeriods p u → Fits x u → AreRead set x.symbols u.symbols → length u.symbols ≡ length t.symbols → u ≡ t) → HasPeriods p t × IsWitness x g t
   read_shows set satisfied t tile has fit only =

@@ -16,7 +16,7 @@ pub record IsLeast (S : ℕ → Type 0) (least most n : ℕ) : Type 0 where
 abbrev pub NoneIn : (ℕ → Type 0) → ℕ → ℕ → Type 0
 NoneIn S least most = (k : ℕ) → least ≤ k → k ≤ most → S k → ⊥
 
--- of the periods in d dimensions that are at most n along each axis, with any shear, p is the first that satisfies T
+-- of the periods in d dimensions that are at most n along each axis, with any shear, p is the first that satisfies T, in the order of `IsBefore`
 pub record IsFirst (T : Periods → Type 0) (d n : ℕ) (p : Periods) : Type 0 where
   pub within : AreWithin d n p
   pub shows : T p
@@ -26,8 +26,9 @@ pub record IsFirst (T : Periods → Type 0) (d n : ℕ) (p : Periods) : Type 0 w
 abbrev pub NoneWithin : (Periods → Type 0) → ℕ → ℕ → Type 0
 NoneWithin T d n = (q : Periods) → AreWithin d n q → T q → ⊥
 
--- The decision is right and comes with its evidence. Here S says that a radius suffices, and R that given steps show this. T says that some
--- configuration of given periods shows the goal, and D that a given one does.
+-- The decision is right and comes with its evidence. Radii are from `least` to `most`, and periods are in d dimensions and at most p along each axis.
+-- Here S says that a radius suffices, and R that given steps show this. T says that some configuration of given periods shows the goal, and D that a
+-- given one does.
 abbrev pub IsDecidedBy : (ℕ → Type 0) → (ℕ → List Step → Type 0) → (Periods → Type 0) → (Periods → Tile → Type 0) → ℕ → ℕ → ℕ → ℕ → Decision → Type 0
 IsDecidedBy S R T D least most d p (Yes n steps) = IsLeast S least most n × R n steps
 IsDecidedBy S R T D least most d p (No tile) = NoneIn S least most × ((q : Periods) × IsFirst T d p q × D q tile)

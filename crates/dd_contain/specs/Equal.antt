@@ -1,4 +1,5 @@
--- Whether two rules allow the same configurations. Here the answer YES is called Same, NO is Differ, and unknown is Open.
+-- Whether two rules allow the same configurations. The answers to this question are called Same (YES), Differ (NO) and Open (unknown) here. Those to
+-- the two box questions keep the names Yes, No and Unknown.
 use Rattle.std.specs.Prelude.{ℕ, ◌≡◌}
 use Rattle.dd_derivation.specs.Sizes.{AreNumbered}
 use Rattle.dd_formula.specs.LocalRule.{LocalRule}
@@ -27,8 +28,8 @@ UnlessNo (No tile) P = Unit {0}
 UnlessNo (Yes n steps) P = P
 UnlessNo Unknown P = P
 
--- The answer is the join of two answers. The left one decides whether no configuration of x breaks y, and the right one
--- whether no configuration of y breaks x. If the left answer is NO, the right one may be anything.
+-- The answer is the join of two answers within the limits n on radii and p on periods. The left one decides whether no configuration of x breaks y,
+-- and the right one whether no configuration of y breaks x. If the left answer is NO, the right one may be anything.
 pub record IsEqualDecided (x y : LocalRule) (n p : ℕ) (equality : Equality) : Type 0 where
   pub left : Decision
   pub right : Decision
@@ -36,7 +37,7 @@ pub record IsEqualDecided (x y : LocalRule) (n p : ℕ) (equality : Equality) : 
   pub right_decided : UnlessNo left (IsDecided y (breaks x) n p right)
   pub join : equality ≡ joined left right
 
--- both questions of a YES have at most 2^24 variables, and the numbers of their clauses and steps fit in 64 bits
+-- if the answer is YES, each question's box has clauses with at most 2^24 variables, and the numbers of its clauses and steps fit in 64 bits
 abbrev pub HasBothNumbers : LocalRule → LocalRule → Equality → Type 0
 HasBothNumbers x y (Same left right) =
     AreNumbered (box_problem x (breaks y) left.radius) left.steps × AreNumbered (box_problem y (breaks x) right.radius) right.steps

@@ -29,7 +29,8 @@ IsUndecided Unknown = Unit {0}
 abbrev pub IsShown : LocalRule → GoalOf → ℕ → Type 0
 IsShown x g p = (q : Periods) × AreWithin x.dimension p q × ShowsAt x g q
 
--- exactly when each answer is given, where `most` is the radius of the largest box, and periods are at most p
+-- This says exactly when each answer is given, and that the conditions of YES and NO exclude each other. `most` is the radius of the largest box that
+-- may be tried, and periods are at most p.
 pub record Trichotomy (x : LocalRule) (g : GoalOf) (most p : ℕ) (decision : Decision) : Type 0 where
   pub yes : IsDecidedYes decision ↔ Suffices x g most
   pub no : IsDecidedNo decision ↔ IsShown x g p

@@ -1,6 +1,6 @@
--- Decisions: the least radius tried that suffices, or the first periods that show the goal. A radius suffices if no admissible filling of its box has the
--- goal at the origin. Periods show the goal if some configuration of these periods lives in the premise's subshift (obeys the premise at every
--- cell) and has the goal at the origin.
+-- Decisions: the least radius tried that suffices, else the first periods that show the goal, else unknown. A radius suffices if no admissible
+-- filling of its box has the goal at the origin. Periods show the goal if some configuration of these periods lives in the premise's subshift (obeys
+-- the premise at every cell) and has the goal at the origin.
 pub mod Decided
 -- which radii suffice, and which periods show the goal
 pub mod Questions
@@ -10,5 +10,5 @@ pub mod Equal
 pub mod Engines
 -- the law of the three answers
 pub mod Laws
--- the state of the search
+-- how far the search has come, what it may ask, and what it does to a roster
 pub mod searching

@@ -24,27 +24,28 @@ Displays x g p t = HasPeriods p t × IsWitness x g t
 abbrev pub ShowsAt : LocalRule → GoalOf → Periods → Type 0
 ShowsAt x g p = (t : Tile) × Displays x g p t
 
--- the search may ask about this radius: the box holds what the goal reads, and its clauses are few enough
+-- the search may ask about this radius: the goal fits the premise, the box holds what the goal reads at the origin, and its clauses are few enough
 pub record AsksRadius (x : LocalRule) (g : GoalOf) (n : ℕ) : Type 0 where
   pub goal : IsGoalFor x g
   pub reaches : Reaches g n
   pub few : question_clauses x g (volume (centred x.dimension n)) ≤ most_clauses
 
--- the search may ask about these periods: they are periods in the premise's dimension, and the clauses of their torus are few
--- enough
+-- the search may ask about these periods: the goal fits the premise, they are periods in the premise's dimension and within the limit for all
+-- questions, and the clauses of their torus are few enough
 pub record AsksPeriods (x : LocalRule) (g : GoalOf) (p : Periods) : Type 0 where
   pub goal : IsGoalFor x g
   pub periods : ArePeriods x.dimension p
   pub few : question_clauses x g (tile_volume p) ≤ most_clauses
 
--- The decision within the limits n on radii and p on periods. The first radius tried is the least one whose box holds what the goal reads. The
--- decision is the least radius tried that suffices, else the first periods that show the goal, else unknown.
+-- The decision within the limits n on radii and p on periods. The first radius tried is the least one whose box holds what the goal reads at the
+-- origin. The last one is n, or the first one if n is smaller. The decision is the least radius tried that suffices, else a configuration of the
+-- first periods that show the goal, else unknown.
 abbrev pub IsDecided : LocalRule → GoalOf → ℕ → ℕ → Decision → Type 0
 IsDecided x g n p decision =
     (least : ℕ) × IsLeastRadius g least
     × IsDecidedBy (Suffices x g) (λ k steps. IsRefuting (box_problem x g k) steps) (ShowsAt x g) (Displays x g) least (max n least) x.dimension p decision
 
--- the clauses of a YES have at most 2^24 variables, and the numbers of its clauses and steps fit in 64 bits
+-- if the decision is YES, the clauses of its box have at most 2^24 variables, and the numbers of its clauses and steps fit in 64 bits
 abbrev pub HasNumbers : LocalRule → GoalOf → Decision → Type 0
 HasNumbers x g (Yes n steps) = AreNumbered (box_problem x g n) steps
 HasNumbers x g (No tile) = Unit {0}
@@ -52,7 +53,7 @@ HasNumbers x g Unknown = Unit {0}
 
 -- The answer within the limits n on radii and p on periods.
 pub record IsDecision (x : LocalRule) (g : GoalOf) (n p : ℕ) (decision : Decision) : Type 0 where
-  -- It is the least radius that suffices, else the first periods that show the goal, else unknown.
+  -- It is right, as `IsDecided` says.
   pub decided : IsDecided x g n p decision
   -- The variables, clauses and steps of a YES stay within their bounds.
   pub numbered : HasNumbers x g decision

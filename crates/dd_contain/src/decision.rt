@@ -14,8 +14,8 @@ pub struct Enough {
 /// The answer to a box question: whether no configuration that obeys the premise has the goal at any position.
 #[derive(Debug, Drop)]
 pub enum Decision {
-    /// No such configuration has the goal. `radius` is the least radius tried that suffices, and `steps` refute the clauses of
-    /// its box.
+    /// No configuration that obeys the premise has the goal. `radius` is the least radius tried that suffices, and `steps`
+    /// refute the clauses of its box.
     Yes { radius: u32, steps: Items<Step> },
     /// The configuration `periodic` obeys the premise and has the goal at the origin. Its periods and shear come first among
     /// those of all such configurations within the limits, in the order that `decide` states.

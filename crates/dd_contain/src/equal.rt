@@ -1,5 +1,5 @@
 //! Whether two rules allow the same configurations. This is two box questions: for each rule, whether none of its
-//! configurations breaks the other rule.
+//! configurations, which are those that obey it, breaks the other rule.
 ghost use Rattle.std.specs.Prelude.{◌≡◌, ◌≤◌, IfOk};
 ghost use Rattle.dd_boxes.specs.Goals.{breaks, IsGoalFor};
 ghost use Rattle.dd_boxes.specs.Counts.{IsSmallQuestion};
@@ -28,16 +28,16 @@ pub enum Half {
 /// The answer to the question whether two rules allow the same configurations.
 #[derive(Debug, Drop)]
 pub enum Equality {
-    /// No configuration of either rule breaks the other. Each of `left` and `right` has the least radius tried that suffices
-    /// for its question.
+    /// No configuration of either rule breaks the other. `left` answers the question whose premise is the first rule, and
+    /// `right` the other question. Each has the least radius tried that suffices for its question.
     Yes { left: Enough, right: Enough },
-    /// A configuration of this side's rule that breaks the other rule.
+    /// `periodic` obeys this side's rule, and breaks the other rule at the origin.
     No { side: Half, periodic: Periodic },
     /// The search found neither of these answers within the limits.
     Unknown,
 }
 
-/// Joins the answers to the two questions.
+/// Joins the answers to the two questions, as the list at `decide_equal` says.
 fn joined(left: Decision, right: Decision) -> Equality
     ensures { result ≡ joined left right }
 {

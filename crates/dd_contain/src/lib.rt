@@ -2,18 +2,23 @@
 //! goal: a property of a position, such as that a given rule is broken there. It asks whether no configuration that obeys the
 //! premise has the goal at any position.
 //!
-//! The search goes through boxes of growing radius, until one has no admissible filling with the goal at the origin: its radius
-//! suffices. (A filling gives each cell of the box a symbol that the cell's node allows. It is admissible if the premise is
-//! true at each of its cells where all that the premise reads has a symbol.)
+//! The box of radius n consists of the positions of Z^d whose coordinates are from -n to n. A cell is a position together with
+//! one of its nodes. The search goes through boxes of growing radius, until one has no admissible filling with the goal at the
+//! origin: its radius suffices. (A filling gives each cell of the box a symbol that the cell's node allows. It is admissible if
+//! the premise is true at each of its cells where all that the premise reads has a symbol.)
 //!
-//! If none of the radii that may be tried suffices, the search goes through tori of growing volume. A torus is given by its
-//! periods, which include a shear. A configuration shows the goal if it obeys the premise and has the goal at the origin.
-//! Periods show the goal if some configuration with these periods shows it. The search stops at the first such periods.
+//! If none of the radii that may be tried suffices, the search goes through tori of growing volume. A torus stands for the
+//! configurations that repeat along the vectors `(x, 0, 0)`, `(shear, y, 0)` and `(0, 0, z)`. Here x, y and z are its periods,
+//! and its volume is their product. Where periods are compared or asked about, they include the shear. A configuration shows
+//! the goal if it obeys the premise and has the goal at the origin. Periods show the goal if some configuration with these
+//! periods shows it. The search stops at the first such periods.
 //!
 //! Each box and each torus becomes a list of clauses. The clauses can be satisfied exactly when the box has an admissible
-//! filling with the goal at the origin, or the torus has a configuration that shows the goal. The engines of a roster, a list
-//! of engines, are asked about the clauses first. If none of them makes a right proposal, a solver decides. An engine is any
-//! value that proposes an assignment or a refutation. It is sound if all that it proposes is right.
+//! filling with the goal at the origin, or the torus has a configuration that shows the goal. A refutation of clauses is a list
+//! of steps. Each step derives a further clause, and the last one derives the empty clause. An engine is any value that
+//! proposes an assignment or a refutation. A proposal is right if it satisfies or refutes the clauses, and an engine is sound
+//! if all that it proposes is right. A roster is a list of engines. The engines of a roster are asked about the clauses first.
+//! If none of them makes a right proposal, a solver decides.
 #![tactic(auto)]
 
 mod decision;

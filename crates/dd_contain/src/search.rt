@@ -66,7 +66,7 @@ struct Shown {
     periodic: Periodic,
 }
 
-/// The least radius from `least` to `most` that suffices, or `None` if none does.
+/// The least radius from `least` to `most` that suffices, with steps that show this; or `None` if none does.
 fn first_radius<Q: Questions, E: Engine>(
     questions: &Q,
     least: u32,
@@ -92,7 +92,7 @@ fn first_radius<Q: Questions, E: Engine>(
     Ok(None)
 }
 
-/// The first periods in the list that show the goal, or `None` if none do.
+/// The first periods in the list that show the goal, with a configuration that shows it; or `None` if none do.
 #[tactic(auto, using(crate::proofs::AskingLaws::same_so_far, crate::proofs::AskingLaws::asked_since))]
 fn first_listed<Q: Questions, E: Engine>(
     questions: &Q,
@@ -117,7 +117,8 @@ fn first_listed<Q: Questions, E: Engine>(
     Ok(None)
 }
 
-/// The first periods that show the goal, in `dim` dimensions and at most `most` along each axis, or `None` if none do.
+/// The first periods that show the goal, in `dim` dimensions and at most `most` along each axis, with a configuration that
+/// shows it; or `None` if none do. The order is that of `search`.
 fn first_periods<Q: Questions, E: Engine>(
     alloc: Global,
     questions: &Q,
@@ -131,7 +132,7 @@ fn first_periods<Q: Questions, E: Engine>(
     ensures kept { Kept (roster_seen E.asked E.given E.sound roster.old) (roster_seen E.asked E.given E.sound roster.new) }
     ensures asked { OnOk result (AskedOrSame (roster_seen E.asked E.given E.sound roster.old) (roster_seen E.asked E.given E.sound roster.new)) }
 {
-    // A law: a roster that is not asked stays as it is.
+    // A law: `Kept` holds from a roster to itself.
     kept_is_reflexive();
     let all = Periods::within(alloc, dim, most)?;
     first_listed(questions, &all, roster)

@@ -26,7 +26,7 @@ inputs_there x p ws cnf nodes rule ok same is known =
     subst (λ c. periods_volume p * nodes * length ws ≤ c.variables) (sym is)
     (subst (λ n. periods_volume p * n * length ws ≤ (torus_problem x always p).variables) (sym known) (inputs_within x p (length ws) rule ok same))
 
--- the list that was made has exactly the clauses of the problem
+-- the list that was made has exactly the variables and the clauses of `weighed`
 pub exactly : (base cnf now new : ClauseList) (ws : List ℕ) (below cells c : ℕ) (signals : List Signal) → cnf ≡ base → cells ≡ c → now ≡ grown cnf (rows ws below cells 0 [] cnf.variables).gates →
     signals ≡ (rows ws below cells 0 [] cnf.variables).signals → new.variables ≡ now.variables → new.clauses ≡ now.clauses ++ last_refused below signals →
     new ≡ weighed base ws below c
@@ -41,7 +41,7 @@ pub shown : (x : LocalRule) (p : Periods) (ws : List ℕ) (below : ℕ) (new : C
     ShowsWeights new.clauses x p ws below
 shown x p ws below new rule ok same exact = subst (λ k. ShowsWeights k.clauses x p ws below) (sym exact) (weight_shows x p ws below rule ok same)
 
--- without a signal no clause is added
+-- if there is no signal at `below` - 1, no clause is added
 pub no_refusal : (signals : List Signal) (below at : ℕ) (clauses : List (List Literal)) → at ≡ below - 1 → length signals ≤ at → clauses ≡ clauses ++ last_refused below signals
 no_refusal signals below at clauses is past =
     sym (append-nil clauses) ∙ ap (λ r. clauses ++ refusal_of r) (sym (slice_get_past signals (below - 1) (subst (λ k. length signals ≤ k) is past)))

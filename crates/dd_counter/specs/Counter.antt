@@ -1,6 +1,6 @@
--- The counter: gates that say how much the first cells weigh. Each cell has a row of signals. The signal with the index t, counted from 0, says that
--- the cells up to and including this one weigh more than t. `ws` lists the weights of the symbols. An input is a variable that says that a cell has a
--- symbol.
+-- The counter: gates that say how much the first cells weigh. A signal is a variable or its negation. An input is a variable that says that a cell
+-- has a certain symbol. Each gate has a variable of its own, with the gate's value. Each cell has a row of signals. The signal with the index t,
+-- counted from 0, says that the cells up to and including this one weigh more than t. `ws` lists the weights of the symbols.
 use Rattle.std.specs.Prelude.{ℕ, zero, suc, ◌+◌, ◌-◌, Bool, true, false, nat_lt, List, [], ◌∷◌, ◌++◌, map, length, Option, Some, None, slice_get, slice_index}
 use Rattle.std.specs.List.{range_with_len}
 use Rattle.dd_clause.specs.{declared.clause.Literal.Literal, Clauses.ClauseList}
@@ -10,30 +10,31 @@ use Rattle.dd_cnf.specs.Encoding.{gates_clauses, opposing}
 use Rattle.dd_compile.specs.Compiling.{AllMade}
 use Rattle.dd_problem.specs.Clauses.{input}
 
--- a making: given the number of variables so far, the gates that are added, and signals over the variables and these gates
+-- A making adds gates after the first n variables, and gives signals over these variables and those of the gates. It is a function of n.
 abbrev pub Making : Type 0
 Making = ℕ → AllMade
 
--- these signals and these gates
+-- what a making gives: these signals and these gates
 abbrev pub making : List Signal → List Gate → AllMade
 making signals gates = record { signals = signals; gates = gates }
 
--- several makings, one after the other
+-- several makings, one after the other: all their signals and all their gates
 abbrev pub joined : List Making → ℕ → AllMade
 joined [] n = making [] []
 joined (m ∷ ms) n =
     let rest = joined ms (n + length (m n).gates) in
     making ((m n).signals ++ rest.signals) ((m n).gates ++ rest.gates)
 
--- The member for a symbol of a cell, one of those that `count` combines with an Or gate. Its signal says that the cell has the symbol, and that the
--- cells up to and including this one weigh more than t. There are three cases. In the first, the symbol weighs enough by itself. In the second, the
--- signal r says that it weighs enough together with the cells before. In the third, there is no such signal r, and the member has no signal either.
+-- The member for a symbol of a cell. The members for all symbols are combined by an Or gate (see `count`). The signal of a member says that the cell
+-- has the symbol, and that the cells up to and including this one weigh more than t. There are three cases. If the symbol alone weighs more than t,
+-- the signal is the symbol's input. Otherwise the cells before must weigh enough, and r is the signal that says that they do. Then the member's
+-- signal is that of an And gate over the input and r. If there is no such signal r, the member has no signal.
 abbrev pub member_by : Signal → Bool → Option Signal → Making
 member_by input true earlier n = making (input ∷ []) []
 member_by input false (Some r) n = making (signal_of (suc n) ∷ []) (And (input ∷ r ∷ []) ∷ [])
 member_by input false None n = making [] []
 
--- the member for a symbol that weighs w, where `before` is the row of the cell before
+-- the member for a symbol that weighs w, where `before` is the row of the cell before (empty for the first cell)
 abbrev pub member : Signal → ℕ → ℕ → List Signal → Making
 member input w t before = member_by input (nat_lt t w) (slice_get before (t - w))
 
@@ -55,7 +56,8 @@ count ws k before t n =
 abbrev pub row : List ℕ → ℕ → ℕ → List Signal → Making
 row ws below k before = joined (map (count ws k before) (range_with_len 0 below))
 
--- the rows of c cells, from the cell k on, each over the row before it; the signals are those of the last row
+-- The rows of c cells, from the cell k on. The first one is over the row `before`, and each other one over the row before it. The signals are those
+-- of the last row.
 abbrev pub rows : List ℕ → ℕ → ℕ → ℕ → List Signal → Making
 rows ws below zero k before n = making before []
 rows ws below (suc c) k before n =
@@ -72,12 +74,13 @@ abbrev pub refusal_of : Option Signal → List (List Literal)
 refusal_of None = []
 refusal_of (Some r) = (opposing r ∷ []) ∷ []
 
--- the clause that says that the last of `below` signals is false; in the last row this signal says that all cells weigh at
+-- the clause that says that the last of `below` signals is false; in the row of the last cell, this signal says that all cells together weigh at
 -- least `below`
 abbrev pub last_refused : ℕ → List Signal → List (List Literal)
 last_refused below signals = refusal_of (slice_get signals (below - 1))
 
--- the clause list and then, if `below` is at least 1, the clauses that say that the c cells weigh less than `below`
+-- A clause list to which clauses are added if `below` is at least 1. They say that c cells together weigh less than `below`. The first variables of
+-- the list are the inputs of these cells.
 abbrev pub weighed : ClauseList → List ℕ → ℕ → ℕ → ClauseList
 weighed cnf ws below c =
     let all = rows ws below c 0 [] cnf.variables in

@@ -1,4 +1,4 @@
--- What a refutation of the clauses says about the weights of all configurations of given periods.
+-- What a refutation of the clauses says about the weights of all living configurations of given periods.
 use Rattle.std.specs.Prelude.{◌≡◌, ◌<◌, ◌≤◌, ◌+◌, ◌-◌, ◌*◌, ◌∷◌, [], ℕ, suc, List, length, get_or}
 use Rattle.dd_derivation.specs.{declared.step.Step.Step, Derivations.IsRefuting}
 use Rattle.dd_circuit.specs.{declared.gates.Signal.Signal, Circuits.signal_of}
@@ -9,7 +9,7 @@ use Rattle.dd_boxes.specs.Goals.{always}
 use Rattle.dd_problem.specs.Problems.{torus_problem}
 use Rattle.dd_counter.specs.{Counter.rows, Counter.last_refused, Weights.weight_problem, Least.IsLiving, Least.LeastOn, Least.NoneOn}
 
--- the signals that say how much all cells weigh
+-- the row of the last cell: the signals that say how much all cells together weigh
 abbrev pub last_row : LocalRule → Periods → List ℕ → ℕ → List Signal
 last_row x p ws below = (rows ws below (periods_volume p * x.nodes) 0 [] (torus_problem x always p).variables).signals
 
@@ -23,7 +23,7 @@ pub record SaysWeights (x : LocalRule) (p : Periods) (ws : List ℕ) : Type 0 wh
   pub unique : (v w : ℕ) → LeastOn x p ws v → LeastOn x p ws w → v ≡ w
   -- there is no least weight if there is no living configuration
   pub either : (w : ℕ) → NoneOn x p → LeastOn x p ws w → ⊥
-  -- if the bound is at least 1, the last clause says that the last signal of the last row is false
+  -- if the bound is at least 1, there is a last clause, which says that the last signal of the last row is false
   pub last : (below : ℕ) → 0 < below → let signals = last_row x p ws below in
       last_refused below signals ≡ (opposing (get_or signals (below - 1) (signal_of 0)) ∷ []) ∷ []
   -- the counter and the last clause add no more clauses to those of the torus than `weight_count` counts for them

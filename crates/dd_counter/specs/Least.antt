@@ -1,4 +1,4 @@
--- The least weight of the configurations of given periods that live in a subshift.
+-- The least weight of the living configurations of given periods.
 use Rattle.std.specs.Prelude.{◌≡◌, ◌<◌, ◌≤◌, ℕ, List, []}
 use Rattle.dd_derivation.specs.{declared.step.Step.Step, Derivations.IsRefuting, Sizes.AreNumbered}
 use Rattle.dd_pattern.specs.{declared.periods.Periods.Periods, Tile.Tile, Weight.total_weight}
@@ -9,7 +9,8 @@ use Rattle.dd_counter.specs.declared.least.LeastWeight.{LeastWeight}
 use Rattle.dd_counter.specs.declared.least.LeastWeight.TheVariants.{Least, Nothing}
 use Rattle.dd_counter.specs.Weights.{weight_problem}
 
--- a living configuration: it has these periods and this shear, has only symbols that its nodes allow, and lives in the rule's subshift
+-- A living configuration has these periods and this shear, has only symbols that its nodes allow, and lives in the rule's subshift: the rule is true
+-- at every cell.
 abbrev pub IsLiving : LocalRule → Periods → Tile → Type 0
 IsLiving x p t = HasPeriods p t × IsWitness x always t
 
@@ -22,12 +23,13 @@ pub record LeastOn (x : LocalRule) (p : Periods) (ws : List ℕ) (w : ℕ) : Typ
 abbrev pub NoneOn : LocalRule → Periods → Type 0
 NoneOn x p = (t : Tile) → IsLiving x p t → ⊥
 
--- the steps refute the clauses that ask for less than w (for any weight if w is 0), and the numbers of variables, clauses and steps are in range
+-- the steps refute the clauses that ask for less than w (for any weight if w is 0), and the numbers of variables, clauses and steps are in range (see
+-- `AreNumbered`)
 pub record IsRefutedBelow (x : LocalRule) (p : Periods) (ws : List ℕ) (w : ℕ) (steps : List Step) : Type 0 where
   pub refuting : IsRefuting (weight_problem x p ws w) steps
   pub numbered : AreNumbered (weight_problem x p ws w) steps
 
--- the living configuration has the least weight w, and the steps refute the clauses that ask for less; there are no steps if w is 0
+-- The living configuration has the least weight w. If w is 0, there are no steps. Otherwise the steps refute the clauses that ask for less.
 pub record IsLeastShown (x : LocalRule) (p : Periods) (ws : List ℕ) (w : ℕ) (t : Tile) (steps : List Step) : Type 0 where
   pub least : LeastOn x p ws w
   pub lives : IsLiving x p t

@@ -1,11 +1,10 @@
 -- the gates that say how much the first cells weigh
 pub mod Counter
--- the clauses that ask for a configuration whose weight is below a bound, and what it means that clauses do so
+-- the clauses that ask for a living configuration whose weight is below a bound, and what it means that clauses ask for one
 pub mod Weights
--- the least weight of the configurations of given periods that live in a rule's subshift (obey the rule at every cell), and
--- when there is no such configuration
+-- living configurations, their least weight, and what it means that the result of the search for it is right
 pub mod Least
--- what a refutation says about the weights of all configurations
+-- what a refutation of the clauses in `Weights` says about the weights of all living configurations
 pub mod Laws
 -- what the search for a lighter configuration returns
 pub mod searching

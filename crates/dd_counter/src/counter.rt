@@ -1,6 +1,7 @@
-//! The counter: gates that say how much the first cells weigh. Each cell has a row of signals, which are the outputs of gates
-//! over the cell's symbol and the row of the cell before. The signal with the index `most`, counted from 0, says that the cells
-//! up to and including this one weigh more than `most`.
+//! The counter: gates that say how much the first cells weigh. A signal is a variable or its negation. An input is a variable
+//! that says that a cell has a certain symbol. Each gate has a variable of its own, with the gate's value. Each cell has a row
+//! of `below` signals, which are variables of gates over the cell's inputs and the row of the cell before. The signal with the
+//! index `most`, counted from 0, says that the cells up to and including this one weigh more than `most`.
 ghost use Rattle.std.specs.Prelude.{◌≡◌, ◌≤◌, ◌<◌, ◌+◌, ◌*◌, ◌++◌, ◌∷◌, [], suc, length, All, IfOk, OnOk};
 ghost use Rattle.dd_values.specs.Bounds.{most_variables};
 ghost use Rattle.dd_circuit.specs.Circuits.{IsSignal, IsGate, signal_of};
@@ -29,7 +30,7 @@ fn push_next(alloc: Global, cnf: &mut Cnf, gate: &Gate) -> Result<Signal, AllocE
     })
 }
 
-/// The signal that says that the cell with this number has this symbol.
+/// The signal that says that the cell with this number has this symbol, one of `symbols` symbols.
 fn input_of(number: u32, symbols: u32, symbol: u32) -> Signal
     requires few { number * symbols + symbols ≤ most_variables }
     requires known { symbol < symbols }
@@ -43,8 +44,9 @@ fn input_of(number: u32, symbols: u32, symbol: u32) -> Signal
 
 /// Appends to `members` the signal for one symbol of a cell. The signal says that the cell has this symbol, and that the cells
 /// up to and including this one weigh more than `most`. The symbol weighs `weight`. The signal `from` says that the cell has
-/// the symbol, and `before` is the row of the cell before. For the first cell, it is empty. If the symbol alone weighs more
-/// than `most`, the signal is `from`. Otherwise it is that of a new gate or, for the first cell, nothing is appended.
+/// the symbol. The row of the cell before is `before`; it is empty for the first cell. If the symbol alone weighs more than
+/// `most`, `from` itself is appended. Otherwise, if `before` has a signal at `most - weight`, an And gate over `from` and this
+/// signal is added, and the gate's signal is appended. If `before` has no such signal, nothing is appended.
 fn push_member(
     alloc: Global,
     cnf: &mut Cnf,
@@ -76,8 +78,9 @@ fn push_member(
     Ok(())
 }
 
-/// Adds the gates for one signal of a cell's row: first those for the symbols, then the one that combines them. Returns the
-/// signal, which says that the cells up to and including this one weigh more than `most`.
+/// Adds the gates for one signal of the row of the cell `number`: first those of `push_member` for each symbol, then an Or gate
+/// over the signals that `push_member` appended. Returns the Or gate's signal, which says that the cells up to and including
+/// this one weigh more than `most`.
 fn push_count(
     alloc: Global,
     cnf: &mut Cnf,
@@ -111,8 +114,8 @@ fn push_count(
     Ok(signal)
 }
 
-/// Adds the gates for a cell's row. Returns its signals, which say that the cells up to and including this one weigh more than 0,
-/// more than 1, and so on, up to more than `below - 1`.
+/// Adds the gates for the row of the cell `number`. Returns the signals of this row. In order, they say that the cells up to
+/// and including this one weigh more than 0, more than 1, and so on, up to more than `below - 1`.
 fn push_row(
     alloc: Global,
     cnf: &mut Cnf,
@@ -158,8 +161,9 @@ pub(crate) fn push_rows(
     Ok(before)
 }
 
-/// Adds the clause that says that the last of the `below` signals is false. This signal says that all cells together weigh at
-/// least `below`. If there is no signal, nothing is added.
+/// Adds the clause that says that the last of the `below` signals of a row is false. In the row of the last cell, this signal
+/// says that all cells together weigh more than `below - 1`, that is, at least `below`. If the row has no signals, nothing is
+/// added.
 pub(crate) fn push_refusal(
     alloc: Global,
     cnf: &mut Cnf,

@@ -1,4 +1,5 @@
-//! What a refutation of the clauses says about the weights of configurations, as the contract of a function that does nothing.
+//! What a refutation of the clauses of `weight_clauses` says about the weights of configurations, as the contract of a function
+//! that does nothing.
 ghost use Rattle.std.specs.Prelude.{◌≡◌, ℕ, List, length};
 ghost use Rattle.dd_pattern.specs.declared.periods.Periods.{Periods as AnyPeriods};
 ghost use Rattle.dd_boxes.specs.TorusPeriods.{AreTorusPeriods};
@@ -6,14 +7,15 @@ ghost use Rattle.dd_counter.specs.Laws.{SaysWeights};
 
 use dd_formula::Rule;
 
-/// Does nothing. Its contract is about the living configurations with given periods, and about the clauses of `weight_clauses`.
-/// If the clauses without a bound are refuted, there is no living configuration. Suppose that some living configuration weighs
-/// `w`. If `w` is 0, or the clauses that ask for a weight below `w` are refuted, then `w` is the least weight. There is at most
-/// one least weight, and there is none if there is no living configuration. The contract also says what the last clause is, and
-/// bounds the number of clauses.
+/// Does nothing. Its contract is about the living configurations with given periods and a given shear, and about the clauses
+/// that ask for them. (`weight_clauses` makes these clauses for shear 0.) If the clauses without a bound are refuted, there is
+/// no living configuration. Suppose that some living configuration weighs `w`. If `w` is 0, or the clauses that ask for a
+/// weight below `w` are refuted, then `w` is the least weight. There is at most one least weight, and there is none if there is
+/// no living configuration. The contract also says what the last clause is if there is a bound, and bounds the number of
+/// clauses that are added to those of the torus.
 pub fn least_law(rule: &Rule)
     ensures { (p : AnyPeriods) (ws : List ℕ) → AreTorusPeriods rule.now.dimension rule.now.nodes p → length ws ≡ rule.now.symbols → SaysWeights rule.now p ws }
 {
-    // This call tells the proof what the type guarantees.
+    // This call tells the proof what the type guarantees: the rule is well formed.
     let _nodes = rule.nodes();
 }

@@ -1,6 +1,7 @@
-//! The search for a configuration of least weight on a torus. The first search asks for any living configuration, and a local
-//! search makes it lighter. After each configuration that is found, the next search asks for a lighter one, until a refutation
-//! shows that there is none. While the weight may still be far above the least weight, a search asks for a much lighter
+//! The search for a living configuration of least weight. It consists of many searches. The first one asks for any living
+//! configuration. A local search replaces the result by a lighter configuration, if it can. Each later search asks for a
+//! configuration that is lighter than the last one found. This one has the least weight once it weighs 0, or once a refutation
+//! shows that none is lighter. While the weight may still be far above the least weight, a search asks for a much lighter
 //! configuration, so that few searches are needed.
 ghost use Rattle.std.specs.Prelude.{◌≡◌, ◌≤◌, ◌*◌, ◌↔◌, length, All, IfOk};
 ghost use Rattle.dd_values.specs.Bounds.{most_variables, most_weight};
@@ -27,30 +28,34 @@ use dd_solver::{solve, trimmed};
 use dd_values::Items;
 use std::alloc::{AllocError, Global};
 
-/// A torus on which the rule takes more clauses than this isn't searched locally.
+/// The local search is left out if the rule's encoding has more clauses than this at all cells of the torus together (see
+/// `torus_rule`).
 const MOST_LOCAL_CLAUSES: u64 = 200_000;
 
-/// The step with which the descent begins (see `descended`). The descent ends once the weight is known to be at most this much
-/// above the least weight.
+/// The first `step` of the descent (see `descended`). The descent ends once the weight is known to be at most this much above
+/// the least weight.
 const NEAR: u64 = 32;
 
-/// The least weight of the living configurations with given periods.
+/// The least weight of the living configurations with given periods and shear 0, or `Nothing` if there is no such
+/// configuration.
 #[derive(Debug, Drop)]
 pub enum LeastWeight {
-    /// The least weight, and a living configuration that has it. The steps refute the clauses that ask for a smaller weight
-    /// (see `weight_clauses`). There are no steps if the weight is 0.
+    /// The least weight, and a living configuration that has it. If the weight is 0, there are no steps. Otherwise the steps
+    /// refute the clauses that ask for a smaller weight: those of `weight_clauses` with this weight as `below`.
     Least {
         weight: u64,
         periodic: Periodic,
         steps: Items<Step>,
     },
-    /// There is no living configuration. The steps refute the clauses that ask for one.
+    /// There is no living configuration. The steps refute the clauses that ask for one: those of `weight_clauses` with 0 as
+    /// `below`.
     Nothing {
         steps: Items<Step>,
     },
 }
 
-/// The result of one search: a configuration that weighs less than a bound, or steps that refute the clauses that ask for one.
+/// The result of one search: a living configuration that weighs less than a bound (or has any weight if the bound is 0), or
+/// steps that refute the clauses that ask for one.
 #[derive(Drop)]
 enum Lighter {
     Found(Periodic),
@@ -70,7 +75,8 @@ fn solved(alloc: Global, cnf: &Cnf, below: u64) -> Result<Outcome, AllocError>
     }
 }
 
-/// Searches for a configuration that lives in the rule's subshift and, if `below` is at least 1, weighs less than `below`.
+/// Searches for a living configuration with these periods and shear 0. If `below` is at least 1, it has to weigh less than
+/// `below`.
 fn search_below(
     alloc: Global,
     rule: &Rule,
@@ -87,13 +93,13 @@ fn search_below(
     match solved(alloc, &cnf, below)? {
         Outcome::Found(found) => {
             let periodic = read_torus(alloc, rule, periods, 0, &found)?;
-            // This call tells the proof what the type guarantees.
+            // This call tells the proof what the type guarantees: the configuration is well formed.
             let _symbols = periodic.symbols();
             Ok(Lighter::Found(periodic))
         }
         Outcome::Refuted(steps) => {
             let used = trimmed(alloc, &cnf, steps)?;
-            // These calls tell the proof what the types guarantee.
+            // These calls tell the proof what the types guarantee: variables, clauses and steps are within their limits.
             let _variable = cnf.variables();
             let _number = last_number(&cnf, used.as_slice());
             Ok(Lighter::Nothing(used))
@@ -101,7 +107,7 @@ fn search_below(
     }
 }
 
-/// The living configuration that a local search finds from `start`, usually a lighter one. If the rule takes more than
+/// The living configuration that a local search finds from `start`, usually a lighter one. If the rule's encoding has more than
 /// `MOST_LOCAL_CLAUSES` clauses on the torus, there is no such search, and the result is `start` itself.
 fn lightened(
     alloc: Global,
@@ -124,10 +130,10 @@ fn lightened(
     }
 }
 
-/// The descent: goes from the living configuration `start` to one that weighs at most `NEAR` more than the least weight. After
-/// a local search, each search asks for a configuration that is lighter by more than `step` than the last one found. No living
-/// configuration weighs less than `refuted`. If the search would ask for less than that, it asks for the weight `refuted`
-/// instead. A success doubles the step, and a refutation sets it back to `NEAR`.
+/// The descent: finds a living configuration that weighs at most `NEAR` more than the least weight. A local search from `start`
+/// finds the first configuration. Then each search asks for one that is lighter by more than `step` than the last one found. A
+/// success doubles `step`. A refutation sets `step` back to `NEAR`, and raises `refuted`. No living configuration weighs less
+/// than `refuted`. So where a search would ask for a weight below `refuted`, it asks for the weight `refuted` instead.
 fn descended(
     alloc: Global,
     rule: &Rule,
@@ -166,7 +172,11 @@ fn descended(
 }
 
 /// The least weight of a living configuration with these periods and shear 0, or `Nothing` if there is no such configuration.
-/// The weight is that of one fundamental box, and the symbol `s` weighs `weights[s]`.
+/// The weight is that of one fundamental box, where the symbol `s` weighs `weights[s]`. The arguments must meet the conditions
+/// of `weight_clauses`, with the number of cells times the greatest weight as `below`. Each weight must be at most 1,000.
+///
+/// # Errors
+/// `AllocError` if memory ran out.
 pub fn least_weight(
     alloc: Global,
     rule: &Rule,

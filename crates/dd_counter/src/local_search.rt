@@ -1,8 +1,11 @@
-//! A local search for lighter configurations of a torus. It changes one cell at a time. While the configuration is no lighter
-//! than the best result so far, a cell gets a lighter symbol, chosen so that the rule becomes false at as few cells as
-//! possible. Once the configuration is lighter, the search looks at a cell where the rule is false. One of the cells that the
-//! rule reads there gets another symbol. The longer the rule stays false at a cell, the more that cell counts: its penalty
-//! grows (Morris 1993), as in NuMVC (Cai, Su, Luo and Sattar 2013).
+//! A local search for lighter configurations of a torus. Each step changes the symbol of at most one cell. While the
+//! configuration is no lighter than the best one so far, a cell gets a lighter symbol. Once the configuration is lighter, the
+//! search takes a cell where the rule is false, and one of the cells that the rule reads there gets another symbol. Whenever
+//! the configuration is lighter and the rule is true at every cell, it is the new best one.
+//!
+//! Each cell has a penalty, which is 1 at first. After each step, it grows by 1 if the rule is false at the cell (Morris 1993),
+//! as in NuMVC (Cai, Su, Luo and Sattar 2013). A change is chosen so that the sum of the penalties of the cells where the rule
+//! is false becomes as small as possible.
 //!
 //! No contract depends on this search: its result is checked afterwards. No invariant says that the indices kept here are
 //! within their lists. So the code tests each index, even where the test can't fail.
@@ -17,14 +20,15 @@ const PATIENCE: u64 = 100_000;
 /// How much the whole search may cost. This much work takes about a second.
 const MOST_COST: u64 = 50_000_000;
 
-/// A change of one cell's symbol. The smaller of two changes is the better one.
+/// A change of one cell's symbol. Two changes are compared field by field, in the order of the fields, and the smaller one is
+/// the better one.
 #[derive(Clone, Copy, PartialEq, Eq, PartialOrd, Ord)]
 struct Change {
     /// How much the sum of the penalties of the cells where the rule is false grows. It is negative if the sum shrinks.
     growth: i64,
     /// How much heavier the configuration becomes.
     heavier: i64,
-    /// The step in which the cell's symbol was last changed.
+    /// The step in which the cell's symbol was last changed, or 0 if it never was.
     changed: u64,
     cell: usize,
     symbol: u32,
@@ -45,7 +49,7 @@ pub(crate) struct LocalSearch<'a> {
     places: Vec<usize>,
     /// For each cell, the penalty for the rule being false there.
     penalties: Vec<i64>,
-    /// For each cell, the step in which its symbol was last changed.
+    /// For each cell, the step in which its symbol was last changed, or 0 if it never was.
     changed: Vec<u64>,
     step: u64,
     /// How many steps in a row changed nothing.
@@ -57,7 +61,7 @@ pub(crate) struct LocalSearch<'a> {
 }
 
 impl<'a> LocalSearch<'a> {
-    /// The search from these symbols, under which the rule is true at each cell.
+    /// A search that starts with these symbols. Under them, the rule has to be true at each cell.
     pub(crate) fn new(
         alloc: Global,
         rule: &'a Rule,
@@ -87,12 +91,12 @@ impl<'a> LocalSearch<'a> {
         })
     }
 
-    /// The lightest symbols that the search finds, with the rule true at each cell.
+    /// Runs the search. Returns the symbols of the lightest configuration found in which the rule is true at each cell.
     pub(crate) fn run(mut self, alloc: Global) -> Result<Vec<u32>, AllocError> {
         self.lighten_all();
         let mut best = Vec::from_slice(alloc, self.symbols.as_slice())?;
         let mut least = self.weight;
-        // The patience ends long before this bound.
+        // Each step costs at least 1, so the patience ends long before this bound.
         for _ in 0..u64::MAX {
             if least == 0 || self.patience == 0 || !self.make_step(least)? {
                 break;
@@ -107,9 +111,9 @@ impl<'a> LocalSearch<'a> {
         Ok(best)
     }
 
-    /// Makes the best change to a lighter symbol or, once the weight is below `least`, the best repair. If there is none,
-    /// nothing changes. Returns false if the rule is true at each cell, and neither this step nor the one before it changed
-    /// anything.
+    /// Makes the best change to a lighter symbol or, once the weight is below `least`, the best repair. If there is none, no
+    /// symbol changes. Then raises penalties. Returns false if the rule is true at each cell, and neither this step nor the one
+    /// before it changed a symbol.
     fn make_step(&mut self, least: u64) -> Result<bool, AllocError> {
         self.step = self.step.saturating_add(1);
         let change = if self.weight >= least {
@@ -133,7 +137,7 @@ impl<'a> LocalSearch<'a> {
         self.budget = self.budget.saturating_sub(cost);
     }
 
-    /// Raises the penalty of each cell where the rule is false.
+    /// Raises by 1 the penalty of each cell where the rule is false.
     fn raise_penalties(&mut self) {
         let count = self.falses.len();
         self.pay(1 + count as u64 / 16);
@@ -146,7 +150,8 @@ impl<'a> LocalSearch<'a> {
         }
     }
 
-    /// Gives each cell in turn the lightest symbol under which the rule stays true everywhere. The patience starts anew.
+    /// Gives each cell in turn the lightest allowed symbol under which the rule stays true everywhere. The rule has to be true
+    /// at each cell when this begins. The patience starts anew.
     fn lighten_all(&mut self) {
         for cell in 0..self.symbols.len() {
             for symbol in 0..self.rule.symbols() {
@@ -161,7 +166,7 @@ impl<'a> LocalSearch<'a> {
         self.patience = PATIENCE.min(self.budget);
     }
 
-    /// The best change to a lighter symbol, among the cells that weren't changed in the previous step.
+    /// The best change to a lighter symbol. Cells that were changed in the previous step are left out.
     fn best_lighter(&mut self) -> Option<Change> {
         let count = self.symbols.len();
         self.pay(count as u64 / 16);
@@ -266,7 +271,7 @@ impl<'a> LocalSearch<'a> {
         })
     }
 
-    /// How much the sum of penalties grows if a cell gets this symbol.
+    /// The growth of the change that gives a cell this symbol (see `Change`).
     fn growth(&mut self, cell: usize, symbol: u32) -> i64 {
         let torus = self.torus;
         let old = self.symbol(cell);
@@ -286,13 +291,14 @@ impl<'a> LocalSearch<'a> {
         growth
     }
 
+    /// Writes a cell's symbol, and changes nothing else.
     fn put(&mut self, cell: usize, symbol: u32) {
         if cell < self.symbols.len() {
             self.symbols[cell] = symbol;
         }
     }
 
-    /// Gives a cell another symbol.
+    /// Gives a cell another symbol, and updates all that depends on it.
     fn set(&mut self, cell: usize, symbol: u32) -> Result<(), AllocError> {
         let torus = self.torus;
         self.weight = self
@@ -311,7 +317,7 @@ impl<'a> LocalSearch<'a> {
         Ok(())
     }
 
-    /// Notes that the rule became false at a cell, or true.
+    /// Adds to `falses` a cell at which the rule became false, or takes out one at which it became true.
     fn note(&mut self, cell: usize, is_false: bool) -> Result<(), AllocError> {
         if cell >= self.places.len() {
             return Ok(());

@@ -1,4 +1,6 @@
-//! A rule on the cells of a torus. The cells are numbered in cell order.
+//! A rule on the cells of a torus. The cells of the fundamental box are numbered from 0 in cell order, and a cell is given by
+//! its number. At each cell the rule is a formula over the cells that it reads there. The encoding of the rule at a cell is the
+//! list of the clauses of this formula's gates.
 ghost use Rattle.std.specs.Prelude.{◌≡◌, ◌<◌};
 ghost use Rattle.dd_expansion.specs.Leaves.{seen};
 
@@ -8,8 +10,8 @@ use dd_numbered::{Numbered, Numbers};
 use dd_pattern::{Periodic, Reads};
 use std::alloc::{AllocError, Global};
 
-/// Numbers cells that are given relative to the position `at`. The symbol of a cell in the configuration `numbers` is the
-/// cell's number (see `numbered_box`).
+/// A numbering of the cells that are given relative to the position `at`. The number of a cell is the symbol that the
+/// configuration `numbers` has there (see `numbered_box`).
 #[derive(Drop)]
 struct Around<'a, R> {
     numbers: &'a R,
@@ -57,8 +59,8 @@ pub(crate) struct TorusRule {
     cells: Vec<CellRule>,
 }
 
-/// The cost of evaluating a formula whose encoding has this many clauses. Usually only a small part of the formula is looked
-/// at.
+/// An estimate of the cost of evaluating a formula whose encoding has this many clauses. Usually only a small part of the
+/// formula is looked at, so the cost is far less than the number of clauses.
 fn cost_of(clauses: u64) -> u64 {
     1 + clauses / 32
 }
@@ -140,7 +142,7 @@ impl TorusRule {
         Ok(())
     }
 
-    /// One of the cells that the rule reads at a cell.
+    /// The cell with the index `place` among those that the rule reads at a cell.
     fn read_at(&self, cell: usize, place: usize) -> Option<usize> {
         self.reads(cell).get(place).copied()
     }
@@ -188,8 +190,8 @@ impl TorusRule {
     }
 }
 
-/// The configuration with the periods and the shear of `periodic` in which the symbol of each cell of the fundamental box is
-/// the cell's number.
+/// The configuration with the dimension, periods, shear and nodes of `periodic` in which each cell of the fundamental box has
+/// its own number as its symbol.
 fn numbered_box(alloc: Global, periodic: &Periodic) -> Result<Option<Periodic>, AllocError> {
     let mut numbers: Vec<u32> = Vec::new(alloc);
     for number in 0..periodic.symbols().len() {

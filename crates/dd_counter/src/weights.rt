@@ -1,4 +1,4 @@
-//! The clauses that ask for a configuration on a torus whose weight is below a bound.
+//! The clauses that ask for a living configuration whose weight is below a bound.
 ghost use Rattle.std.specs.Prelude.{◌≡◌, ◌≤◌, ◌*◌, length, IfOk};
 ghost use Rattle.dd_values.specs.Bounds.{most_variables};
 ghost use Rattle.dd_pattern.specs.Periods.{periods_of, periods_volume};
@@ -14,10 +14,14 @@ use dd_formula::Rule;
 use dd_problem::torus_clauses;
 use std::alloc::{AllocError, Global};
 
-/// The clauses that ask for a living configuration with these periods and shear 0, so that it repeats along each axis. If
-/// `below` is at least 1, its fundamental box has to weigh less than `below`. The symbol `s` weighs `weights[s]`. The clauses
-/// of the torus come first. Those of a sequential counter follow (Sinz, 2005; with weights: Hölldobler, Manthey and Steinke,
-/// 2012).
+/// The clauses that ask for a living configuration with these periods and shear 0. If `below` is at least 1, it has to weigh
+/// less than `below`; if `below` is 0, it may have any weight. The clauses of the torus come first, as `torus_clauses` in
+/// `dd_problem` gives them. If `below` is at least 1, the clauses of a sequential counter follow (Sinz, 2005; with weights:
+/// Hölldobler, Manthey and Steinke, 2012), and then a last clause that sets the bound.
+///
+/// There must be one weight for each symbol: the symbol `s` weighs `weights[s]`. Each period must be at least 1, and the period
+/// of an axis past the dimension must be 1. The fundamental box must have at most 65,536 cells. `weight_count`, a bound on the
+/// number of clauses, must be at most 2,000,000.
 ///
 /// # Errors
 /// `AllocError` if memory ran out.

@@ -1,5 +1,6 @@
--- How many patterns a rule has at a node, how many states its transfer graph has over a strip, and the limits on both. The vertices of a transfer
--- graph are states. A state is a filling of successive slices, and a slice of a strip consists of its cells with one value of x.
+-- How many patterns a rule has at a node, how many states and windows its transfer graph has over a strip, and the limits on these numbers. A strip
+-- has periods along y and z, and no end along x. A slice of it consists of its cells with one value of x. The vertices of a transfer graph are
+-- states. A state is a filling of successive slices.
 use Rattle.std.specs.Prelude.{ℕ, ◌+◌, ◌-◌, ◌*◌, ◌^◌, max, ℤ, pos, ◌-ℤ◌, unsigned_abs, List, length}
 use Rattle.std.specs.{Int.int_min, Int.int_max, List.fold}
 use Rattle.dd_lattice.specs.declared.position.Cell.{Cell}

@@ -45,8 +45,9 @@ fn disallowed_pairs(rule: &Rule) -> u32
     count
 }
 
-/// The number of clauses of a position, or `limit + 1` if it is greater than `limit`. These clauses say of each cell of the
-/// position that it has exactly one symbol, that its node allows the symbol, and that the rule is true there.
+/// The number of clauses of a position, or `limit + 1` if it is greater than `limit`. These clauses encode the rule's gates at
+/// the position. They also say of each cell of the position that it has exactly one symbol, that its node allows the symbol,
+/// and that the rule is true there.
 pub fn place_clauses(rule: &Rule, limit: u32) -> u32
     requires { limit < 2 ^ 31 }
     ensures { result ≡ cut limit (place_clauses rule.now) }
@@ -60,8 +61,8 @@ pub fn place_clauses(rule: &Rule, limit: u32) -> u32
     )
 }
 
-/// The number of clauses that say that the rule is false at some node of the origin, or `limit + 1` if it is greater than
-/// `limit`.
+/// The number of clauses that say that the rule is false at some node of the origin, those of the rule's gates included; or
+/// `limit + 1` if it is greater than `limit`.
 pub fn broken_clauses(rule: &Rule, limit: u32) -> u32
     requires { limit < 2 ^ 31 }
     ensures { result ≡ cut limit (broken_clauses rule.now) }
@@ -69,9 +70,10 @@ pub fn broken_clauses(rule: &Rule, limit: u32) -> u32
     plus(limit, rule_clauses(rule, limit), 1)
 }
 
-/// The number of clauses of a box question, or `limit + 1` if it is greater than `limit`. The question's region is the box of
-/// this radius, or the torus with this period along each axis if that has more positions. `goal` must be the number of clauses of
-/// the goal, or `limit + 1` if that number is greater than `limit`.
+/// The number of clauses of a box question, or `limit + 1` if it is greater than `limit`. The clauses are about the positions
+/// of a box or of a torus, whichever has more. Along each of the premise's axes, the box has `2 * radius + 1` positions, and
+/// the torus has `period` positions. `goal` must be the number of clauses of the goal, or `limit + 1` if that number is greater
+/// than `limit`. The radius must be below 2^31.
 pub fn question_clauses(premise: &Rule, goal: u32, radius: u32, period: u32, limit: u32) -> u32
     requires radius { radius < 2 ^ 31 }
     requires limit { limit < 2 ^ 31 }

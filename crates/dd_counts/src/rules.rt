@@ -1,8 +1,8 @@
-//! How many patterns a rule has at a node, how many states its transfer graph has over a strip, and the limits on both. A
-//! pattern is a filling of the cells that the rule reads at the node: it gives each of them a symbol. A strip has periods along
-//! y and z, and no end along x. A slice of a strip consists of its cells with one value of x. The vertices of a transfer graph
-//! are states: a state is a filling of `state_length` successive slices. Each edge is a window, which is a filling of one slice
-//! more than a state has.
+//! How many patterns a rule has at a node, how many states and windows its transfer graph has over a strip, and the limits on
+//! these numbers. A pattern is a filling of the cells that the rule reads at the node: it gives each of them a symbol. A strip
+//! has periods along y and z, and no end along x. A slice of a strip consists of its cells with one value of x. The vertices of
+//! a transfer graph are states: a state is a filling of `state_length` successive slices. A window is a filling of one slice
+//! more than a state has. Each edge is a window, but a window need not be an edge.
 ghost use Rattle.std.specs.Prelude.{◌≡◌, ◌^◌, ◌<◌, ◌≤◌};
 ghost use Rattle.dd_formula.specs.Counts.{cut};
 ghost use Rattle.dd_counts.specs.Rules.{pattern_count, least_x, greatest_x, slice_span, state_length, slices, states, window_count};

@@ -1,6 +1,6 @@
 //! How many clauses encode the values of automata, which are the symbols that they give to cells. An automaton by cases gives
 //! each cell the symbol of the first true case, which is the first case whose rule is true there. If no case is true, it gives
-//! the default symbol.
+//! the default symbol. A composed automaton applies its inner automaton first, and its outer one to the result.
 ghost use Rattle.std.specs.Prelude.{◌≡◌, ◌≤◌, ◌^◌, ◌<◌, IfOk, map};
 ghost use Rattle.dd_expansion.specs.Leaves.{total};
 ghost use Rattle.dd_formula.specs.Automata.{HasNode, HaveNode, HasCells, HasCaseNode};
@@ -84,7 +84,7 @@ fn value_clauses_from(
 }
 
 /// The number of clauses that say that two automata differ at a node, or `limit + 1` if it is greater than `limit`. The clauses
-/// encode both values, for each symbol a gate with two inputs, and one gate over all these gates.
+/// encode both values, a gate with two inputs for each symbol, and one gate over all these gates.
 fn differ_at(
     alloc: Global,
     first: &Automaton,
@@ -103,8 +103,8 @@ fn differ_at(
     Ok(plus(limit, plus(limit, one, other), gates))
 }
 
-/// The number of clauses that say that two automata differ at one of the first `nodes` nodes of the origin, or `limit + 1` if it
-/// is greater than `limit`.
+/// The number of clauses that say that two automata differ at one of the first `nodes` nodes of the origin, or `limit + 1` if
+/// it is greater than `limit`. Both automata are over an alphabet of `symbols` symbols.
 ///
 /// # Errors
 /// `AllocError` if memory ran out.

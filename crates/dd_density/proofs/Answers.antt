@@ -22,7 +22,7 @@ mean_small g m l cycle ps is = lowest_small m l (weight_of g cycle) (length cycl
 some_product : (a b : ℕ) → 0 < a → 0 < b → 0 < a * b
 some_product a b p q = let x : 1 * 1 ≤ a * b = mul-le-mul {n₁ = 1} {m₁ = 1} {n₂ = a} {m₂ = b} p q in omega (arith, x)
 
--- a least mean has small numbers, and so has the mean divided by the number of positions in a slice
+-- for a least mean m / l, the numbers m and l * volume are small enough for an output, and l * volume isn't 0
 pub mean_over : (g : Transfer) (volume : ℕ) (m : Mean) → IsTransfer g → 0 < volume → volume ≤ 4096 → IsMeanOf g m → IsMeanOver volume m
 mean_over g volume (mean.Least m l cycle ps) well some few is =
     let small = mean_small g m l cycle ps is in
@@ -68,7 +68,7 @@ is_small r s weights g (mean.NoCycle ranks) (Empty given) is least over of = λ 
 is_small r s weights g (mean.Least m l cycle ps) (Empty given) is least over of = absurd of
 is_small r s weights g (mean.NoCycle ranks) (Least p q walk qs) is least over of = absurd of
 
--- a slice has at least one position
+-- a slice has y * z positions; this is at least 1 if both periods are
 pub volume_some : (y z : ℕ) → 0 < y → 0 < z → 0 < y * z
 volume_some y z p q = some_product y z p q
 

@@ -10,7 +10,7 @@ use Rattle.dd_density.proofs.Fractions.{SameFraction, lowest_same}
 same_state : (a b : ℕ) → Some a ≡ Some b → a ≡ b
 same_state a b h = cc
 
--- at most one edge leaves a state by a slice, so it is enough to test this edge
+-- at most one edge leaves a state by a slice; if there is one, it is enough to test this edge
 pub rise_along : (g : Transfer) (m l : ℕ) (ps : List ℤ) (u t next weight : ℕ) (b : Bool) → next_of g u t ≡ Some next → weight ≡ weight_at g t →
     (IsTrue b ↔ ((potential_of ps next -ℤ potential_of ps u) ≤ℤ (pos (l * weight) -ℤ pos m))) → IsTrue b ↔ IsRiseAlong g m l ps u t
 rise_along g m l ps u t next weight b here heavy said = (
@@ -21,7 +21,7 @@ rise_along g m l ps u t next weight b here heavy said = (
   λ all. said.1 (subst (λ (w : ℕ). (potential_of ps next -ℤ potential_of ps u) ≤ℤ (pos (l * w) -ℤ pos m)) (sym heavy) (all next here)),
 )
 
--- the numbers found for a walk: its mean and its density
+-- the numbers that the check finds for a closed walk: its mean mn / md and its density dn / dd, both in lowest terms
 pub record AreFound (g : Transfer) (volume : ℕ) (walk : List ℕ) (mn md dn dd : ℕ) : Type 0 where
   pub cycle : IsCycle g walk
   pub mean : IsInLowestTerms mn md (weight_of g walk) (length walk)

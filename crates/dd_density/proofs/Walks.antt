@@ -60,7 +60,7 @@ potentials_of r s weights g m l ps is given = λ u t v h.
     let same : weight_at g t ≡ slice_weight r s weights t = is.weighs t (step g u t v h).slice in
     subst (λ (x : ℕ). (potential_of ps v -ℤ potential_of ps u) ≤ℤ (pos (l * x) -ℤ pos m)) (sym same) (given.rise u t v ((is.edges u t v).0 h))
 
--- what is shown over the graph is a certificate for the strip, and the other way round
+-- a walk and potentials that are right for the graph are a certificate for the strip; `shown_of` is the converse
 pub certificate_of : (r : LocalRule) (s : Strip) (weights : List ℕ) (g : Transfer) (p q : ℕ) (ws : List ℕ) (ps : List ℤ) → IsGraphOf r s weights g → IsShown g (positions s) p q ws ps → IsDensityCertificate r s weights p q ws ps
 certificate_of r s weights g p q ws ps is shown = record {
   m = shown.m;

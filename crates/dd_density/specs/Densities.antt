@@ -1,4 +1,5 @@
--- Answers to the question of the least density of a strip: their certificates, and the size of their numbers.
+-- Answers to the question of the least density of a strip: their certificates, and the size of their numbers. A number is small enough for an output
+-- if its absolute value is at most `most_number`.
 use Rattle.std.specs.{Prelude.ℕ, Prelude.◌≤◌, Prelude.ℤ, Prelude.unsigned_abs, Prelude.List, Prelude.length, List.All}
 use Rattle.dd_values.specs.Bounds.{most_number}
 use Rattle.dd_formula.specs.LocalRule.{LocalRule}
@@ -21,7 +22,7 @@ pub record IsSmallLeast (r : LocalRule) (s : Strip) (p q : ℕ) (walk : List ℕ
   pub walked : All (λ u. u ≤ most_number) walk
   pub potentials : All (λ x. unsigned_abs x ≤ most_number) ps
 
--- the answer's numbers are small enough for an output
+-- the answer's numbers are small enough for an output, and its walk, if it has one, has at most as many states as the transfer graph
 abbrev pub IsSmallDensity : LocalRule → Strip → Density → Type 0
 IsSmallDensity r s (Least p q walk ps) = IsSmallLeast r s p q walk ps
 IsSmallDensity r s (Empty ranks) = All (λ x. x ≤ most_number) ranks

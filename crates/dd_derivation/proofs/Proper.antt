@@ -54,7 +54,7 @@ proper_snoc n (x ∷ xs) l r p a =
 abbrev pub mark_of : List VariableMark → ℕ → VariableMark
 mark_of marks v = get_or marks (v - 1) (record { step = 0; positive = false })
 
--- a literal in range is false exactly when its variable has a mark of this step and of its sign
+-- a literal in range is false exactly when the mark of its variable has the number of this step and the sign of the literal
 marked_at : (marks : List VariableMark) (step : ℕ) (front : List Literal) (x : Literal) → FalsesAre marks step [] front → IsLiteralInRange (length marks) x → is_among front x ≡ ((eqb (mark_of marks x.variable).step step) && beq (mark_of marks x.variable).positive x.positive)
 marked_at marks step front x m r = sym (rw (in_range-true (length marks) x r) at (m x))
 
@@ -64,7 +64,8 @@ marked_has marks step front v m a b e =
     let y : Literal = record { variable = v; positive = (mark_of marks v).positive } in
     has-in front y (marked_at marks step front y m (a, b) ∙ and_from _ _ (eq-eqb _ step e) (beq_same (mark_of marks v).positive))
 
--- after the clause's next literal is marked, the marks stand for one more false literal, and the variables so far are still distinct and in range
+-- Let the clause's next literal be in range, and let its variable have no mark of this step yet. After this literal is marked, the marks stand for
+-- one more false literal, and the variables so far are still distinct and in range.
 pub start_more : (marks : List VariableMark) (step : ℕ) (clause : List Literal) (i : ℕ) (d : Literal) → i < length clause → IsLiteralInRange (length marks) (get_or clause i d) → ((mark_of marks (get_or clause i d).variable).step ≡ step → ⊥) → FalsesAre marks step [] (take i clause) → is_proper (length marks) (take i clause) ≡ true → (is_proper (length marks) (take (i + 1) clause) ≡ true) × FalsesAre (with_mark marks step (get_or clause i d)) step [] (take (i + 1) clause)
 start_more marks step clause i d lt r u m p =
     let l = get_or clause i d in

@@ -46,8 +46,8 @@ last_step n known steps i s h g l r =
 pub more_step : (n : ℕ) (known : List (Option (List Literal))) (steps : List Step) (i : ℕ) (s : Step) → i < length steps → s ≡ get_or steps i s → (i + 1 ≡ length steps → ⊥) → is_right n known s ≡ true → refutes_from n known (drop i steps) ≡ refutes_from n (known_after known s.deletes ++ Some s.clause ∷ []) (drop (i + 1) steps)
 more_step n known steps i s h g l r = refutes_at n known steps i s h ∙ rw (← g, r, ne_eqb (i + 1) (length steps) l) refl
 
--- If `alive` says which clauses are left after the deletions of earlier steps, then the step at this index is right exactly when it is right given
--- these clauses.
+-- Let `all` say that each clause is alive, and `alive` which ones are left after the deletions of earlier steps. Given the clauses that are left,
+-- `is_right` says the same of the step at this index as `is_step_right`.
 pub step_right_at : (n : ℕ) (clauses : List (List Literal)) (steps : List Step) (index : ℕ) (s : Step) (all alive : List Bool) → index < length steps → s ≡ get_or steps index s → length all ≡ length clauses + length steps → ((k : ℕ) → k < length all → get_or all k false ≡ true) → ((cs : List (List Literal)) → known_of cs alive ≡ known_after_steps (known_of cs all) (take index steps)) → is_right n (known_of (clauses_before clauses (take index steps)) alive) s ≡ is_step_right n clauses steps index
 step_right_at n clauses steps index s all alive lt g l a d =
     let cs = clauses_before clauses (take index steps) in

@@ -16,7 +16,7 @@ same_literal a b = (a.variable == b.variable) && beq a.positive b.positive
 abbrev pub is_among : List Literal → Literal → Bool
 is_among literals l = list_any (same_literal l) literals
 
--- what a clause says; the list holds those of its literals that are not false
+-- what a clause says (see `finding`); the list holds those of its literals that are not false
 abbrev pub finding_of : (Literal → Bool) → List Literal → Finding
 finding_of is_false [] = Falsified
 finding_of is_false (l ∷ rest) =
@@ -41,14 +41,16 @@ without known (suc k) = slice_set known k None
 abbrev pub hint_finding : List (Option (List Literal)) → (Literal → Bool) → ℕ → Finding
 hint_finding known is_false h = option_map_or (finding is_false) (clause_of known h) Open
 
--- Whether the hints lead to a conflict, given what the clause of the first hint says. If this clause is falsified, its hint must be the last one. If
--- it forces a literal, `next` tells whether the other hints lead to a conflict. If it is open, the hints fail.
+-- Whether the hints end in a conflict (see `is_conflict`), given what the clause of the first hint says. If this clause is falsified, its hint must
+-- be the last one; `is_last` tells whether it is. If the clause forces a literal, `next` tells whether the other hints end in a conflict. If the
+-- clause is open, the hints do not end in a conflict.
 abbrev pub follow : Finding → Bool → (Literal → Bool) → Bool
 follow Falsified is_last next = is_last
 follow (Forced l) is_last next = next l
 follow Open is_last next = false
 
--- the hints end in a conflict: each hint but the last forces a literal, which is true from then on, and the clause of the last hint is falsified
+-- The hints end in a conflict: the clause of each hint but the last forces a literal, which is true from then on, and the clause of the last hint is
+-- falsified. `falses` holds the literals that are false before the first hint.
 abbrev pub is_conflict : List (Option (List Literal)) → List Literal → List ℕ → Bool
 is_conflict known falses [] = false
 is_conflict known falses (h ∷ hints) =
@@ -78,12 +80,13 @@ abbrev pub is_proper : ℕ → List Literal → Bool
 is_proper n [] = true
 is_proper n (l ∷ rest) = (is_literal_in_range n l && not (has_variable l.variable rest)) && is_proper n rest
 
--- The step is right, which means three things. Its clause is proper. If the literals of its clause are false, its hints end in a conflict, so the
--- clause follows. The clauses that it deletes exist.
+-- The step is right, given the known clauses. This means three things. Its clause is proper. If the literals of its clause are false, its hints end
+-- in a conflict, so the clause follows. The clauses that it deletes are known, and it names each of them once.
 abbrev pub is_right : ℕ → List (Option (List Literal)) → Step → Bool
 is_right n known s = is_proper n s.clause && (is_conflict known s.clause s.hints && are_deletable known s.deletes)
 
--- Each step is right, and the last one's clause is empty. A step's clause is known to the steps after it.
+-- There is at least one step, each step is right, and the last one's clause is empty. `known` holds the clauses that are known before the first step.
+-- After a step, the clauses that it deletes are no longer known, and its own clause is known.
 abbrev pub refutes_from : ℕ → List (Option (List Literal)) → List Step → Bool
 refutes_from n known [] = false
 refutes_from n known (s ∷ steps) =
@@ -108,8 +111,8 @@ abbrev pub known_after_steps : List (Option (List Literal)) → List Step → Li
 known_after_steps known [] = known
 known_after_steps known (s ∷ steps) = known_after_steps (known_after known s.deletes) steps
 
--- The step at this index, counted from 0, is right. The known clauses are those of the list and of earlier steps, except those that an earlier step
--- deletes.
+-- There is a step at this index, counted from 0, and it is right. The known clauses are those of the list and of earlier steps, except those that an
+-- earlier step deletes.
 abbrev pub is_step_right : ℕ → List (List Literal) → List Step → ℕ → Bool
 is_step_right n clauses steps index =
     let earlier = take index steps in

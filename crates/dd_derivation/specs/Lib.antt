@@ -1,6 +1,6 @@
 -- refutations of a clause list: when a step is right, and when steps refute the list
 pub mod Derivations
--- how much memory a check needs, and when the numbers of clauses and steps are in range
+-- the sizes of a check's memory, and bounds on the numbers of variables, clauses and steps
 pub mod Sizes
 -- what the marks of a check mean
 pub mod checking

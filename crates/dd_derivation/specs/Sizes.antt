@@ -1,4 +1,4 @@
--- How many variables, and how many clauses and steps together, a check has room for.
+-- How many variables, and how many clauses and steps together, a check has room for, and bounds on these numbers.
 use Rattle.std.specs.Prelude.{ℕ, ◌≤◌, ◌+◌, ◌-◌, ◌^◌, List, length}
 use Rattle.dd_values.specs.Bounds.{most_variables}
 use Rattle.dd_clause.specs.Clauses.{ClauseList}

@@ -1,5 +1,6 @@
 //! The clauses that a step may use as hints: those of the list and of earlier steps, except the deleted ones. A clause is alive
-//! until it is deleted. A list of truth values says which clauses are alive, so a deletion changes a single value.
+//! until it is deleted. The list `alive` says which clauses are alive: the clause with the number k is alive exactly when
+//! `alive[k - 1]` is true. So a deletion changes a single value.
 ghost use Rattle.std.specs.Prelude.{◌≡◌, ℕ, ◌+◌, ◌≤◌, List, length, true, false, slice_index_or};
 ghost use Rattle.std.specs.Option.{option_copied};
 ghost use Rattle.dd_clause.specs.declared.clause.Literal.{Literal};
@@ -31,7 +32,8 @@ impl<'a> Model for Known<'a> {
 }
 
 impl<'a> Known<'a> {
-    /// The clauses that are known after these steps. The clause with the number k is alive if `alive[k - 1]` is true.
+    /// The known clauses of a list and of these steps. The clause with the number k is alive exactly when `alive[k - 1]` is
+    /// true. `alive` must have a value for each clause of the list and of the steps.
     pub fn new(clauses: &'a [Clause], steps: &'a [Step], alive: &'a [bool]) -> Known<'a>
         requires { length clauses.now + length steps.now ≤ length alive.now }
         ensures { result ≡ known_to clauses.now steps.now alive.now }
@@ -65,8 +67,8 @@ impl<'a> Known<'a> {
 }
 
 /// Deletes the clauses with these numbers, one after the other, and returns true. A number is wrong if it is not from 1 to
-/// `count`, or if the clause with this number is already deleted. At the first wrong number the call stops and returns false.
-/// `count` is the number of clauses of the list and of earlier steps together.
+/// `count`, or if the clause with this number is already deleted. At the first wrong number the call stops and returns false;
+/// the clauses named before it stay deleted. `count` is the number of clauses of the list and of earlier steps together.
 pub fn delete_all(alive: &mut [bool], count: usize, numbers: &[u64]) -> bool
     requires { count ≤ length alive.old }
     ensures value { (cs : List (List Literal)) → length cs ≡ count →
@@ -92,7 +94,8 @@ pub fn delete_all(alive: &mut [bool], count: usize, numbers: &[u64]) -> bool
     true
 }
 
-/// Deletes the clauses with these numbers, and checks nothing. A number that no clause has is skipped.
+/// Deletes the clauses with these numbers, and checks nothing: for each number k, `alive[k - 1]` becomes false. A number that
+/// is not from 1 to `alive.len()` is skipped.
 pub fn delete_named(alive: &mut [bool], numbers: &[u64])
     ensures { (cs : List (List Literal)) →
         known_of cs alive.new ≡ spec.known_after (known_of cs alive.old) numbers.now }

@@ -1,8 +1,14 @@
 //! Refutations of a clause list, and their check. A refutation is a list of steps. Each step gives a clause that follows from
 //! clauses before it, and hints: the numbers of the clauses that show this. The last step's clause is empty, so no assignment
-//! satisfies the clause list. A step may also delete clauses. A clause is alive, or known, until it is deleted. A step is right
-//! if three things hold. Its clause has only variables of the list, each at most once. Its hints show that this clause follows.
-//! The clauses that it deletes are alive.
+//! satisfies the clause list. A step may also delete clauses. A clause is alive, or known, until it is deleted.
+//!
+//! A clause is falsified if all of its literals are false. A falsified clause is a conflict. A clause forces a literal if this
+//! literal has no value yet and all other literals of the clause are false. A clause that is not falsified and forces no
+//! literal is open.
+//!
+//! A step is right if three things hold. Its clause has only variables of the list, each at most once. Its hints end in a
+//! conflict: if the literals of its clause are false, each hinted clause but the last forces a literal, which is made true, and
+//! the last one is then falsified. The clauses that it deletes are alive, and it names each of them once.
 #![tactic(auto)]
 
 mod known;

@@ -1,7 +1,8 @@
-//! Unit propagation along the hints of a step. The literals of the step's clause are assumed to be false. Then each hinted clause
-//! makes one more literal true, until a hinted clause has only false literals. The mark of a variable says which of its literals
-//! is false. It also holds the number of the step that made it, so marks need not be cleared between steps. For this, steps are
-//! numbered from 1 in the order in which they are checked. The clause of a step has another number, by which hints refer to it.
+//! Unit propagation along the hints of a step. The literals of the step's clause are assumed to be false. Then each hinted
+//! clause but the last has to make one more literal true, and the last one has to have only false literals. The mark of a
+//! variable says which of its literals is false. It also holds the number of the step that made it, so marks need not be
+//! cleared between steps. For this, steps are numbered from 1 in the order in which they are checked. Hints use another
+//! numbering, which counts the clauses of the list first.
 ghost use Rattle.std.specs.Prelude.{◌≡◌, ◌<◌, [], Bool, length, take, true, slice_index_or};
 ghost use Rattle.dd_clause.specs.declared.clause.Literal.{Literal};
 ghost use Rattle.dd_derivation.specs.Derivations as spec;
@@ -94,8 +95,8 @@ impl<'a> FalseLiterals for After<'a> {
     ghost is_false = { λ a. marks_of.is_false a.marks.now a.step (literals_of a.known.now a.hints.now) };
 
     /// A variable out of range has no mark. Such a variable occurs only in the clauses of wrong steps, and `check_step` allows
-    /// earlier steps to be wrong. The variable has no value until a hinted clause contains it. So the first such clause forced
-    /// the literal of this variable that it contains. The negation of this literal is false.
+    /// earlier steps to be wrong. The step's own clause does not contain it, so it has no value until a hinted clause contains
+    /// it. That clause then forced the literal of this variable that it contains. The negation of this literal is false.
     fn is_false(&self, literal: Literal) -> bool {
         let variable = literal.variable as usize;
         if variable >= 1 && variable <= self.marks.len() {
@@ -165,8 +166,9 @@ fn find_hint(
     }
 }
 
-/// Whether the step's hints end in a conflict: a clause whose literals are all false. Before the call, exactly the literals of
-/// the step's own clause must be marked as false.
+/// Whether the step's hints end in a conflict: each hinted clause but the last forces a literal, which is made true, and all
+/// literals of the last one are then false. Before the call, exactly the literals of the step's own clause must be marked as
+/// false, with `number` as the step number of their marks.
 pub fn follow_hints(known: &Known, marks: &mut [VariableMark], number: u64, step: &Step) -> bool
     requires marks { FalsesAre marks.old number [] step.now.clause }
     requires older { AreUpTo number marks.old }

@@ -1,5 +1,5 @@
-//! The check of a refutation: whether each step is right, and the last step's clause is empty. The check allocates nothing. Its
-//! `Marks` are made beforehand, and serve for any refutation of the same sizes.
+//! The check of a refutation: whether each step is right, and the last step's clause is empty. The check allocates nothing. It
+//! works in `Marks`, which are made beforehand and may be used for several checks.
 ghost use Rattle.std.specs.Prelude.{◌≡◌, ℕ, ◌+◌, ◌<◌, ◌≤◌, Bool, true, false, List, length, slice_index_or, IfOk, ◌-◌, ◌^◌};
 ghost use Rattle.dd_clause.specs.declared.clause.Literal.{Literal};
 ghost use Rattle.dd_clause.specs.Clauses.{Satisfies};
@@ -13,8 +13,8 @@ use dd_clause::{Clause, Cnf};
 use std::alloc::{AllocError, Global};
 use std::marker::Model;
 
-/// The memory that a check works in: a mark for each variable, and a truth value for each clause and step. The truth value says
-/// whether the clause is alive.
+/// The memory that a check works in: a mark for each variable, and a truth value for each clause of the list and for each step.
+/// The truth value says whether the clause, or the step's clause, is alive.
 #[derive(Drop)]
 pub struct Marks {
     variables: Vec<VariableMark>,
@@ -47,8 +47,8 @@ impl Marks {
     }
 }
 
-/// The number of the last step, or of the last clause if there are no steps. First the clauses are numbered, from 1, and then
-/// the steps.
+/// The number of the last step, or of the last clause if there are no steps, or 0 if there are no clauses either. First the
+/// clauses are numbered, from 1, and then the steps.
 pub fn last_number(cnf: &Cnf, steps: &[Step]) -> u64
     ensures value { result ≡ length cnf.now.clauses + length steps.now }
     ensures few { length cnf.now.clauses + length steps.now ≤ 2 ^ 64 - 1 }
@@ -78,8 +78,9 @@ fn revive(alive: &mut [bool])
     }
 }
 
-/// Whether a step is right, given the steps before it. If it is, the clauses that it deletes are no longer alive after the call.
-/// `number` must be greater than the step number of each mark made before. It is not the number of the step's clause.
+/// Whether a step is right, given the steps before it. If it is, the clauses that it deletes are no longer alive after the
+/// call. The step's marks are made with `number`, which must be greater than the step number of each mark made before. Hints do
+/// not refer to the step by this number.
 fn check_one(
     clauses: &[Clause],
     earlier: &[Step],
@@ -148,8 +149,9 @@ fn check_with(cnf: &Cnf, steps: &[Step], alive: &mut [bool], marks: &mut [Variab
 }
 
 /// Whether the steps refute the clauses: there is at least one step, each step is right, and the last step's clause is empty.
-/// Then no assignment satisfies the clauses. The check allocates nothing. Its time grows with the total length of the hinted
-/// clauses, where each clause counts as often as it is used as a hint.
+/// Then no assignment satisfies the clauses. `marks` must have the sizes that `Marks::new` gives it for `cnf` and `steps`. The
+/// check allocates nothing. Its time is linear in the sizes of the clause list and of the steps, and in the total length of the
+/// hinted clauses, where each clause counts as often as it is used as a hint.
 pub fn check_refutation(cnf: &Cnf, steps: &[Step], marks: &mut Marks) -> bool
     requires variables { marks.old.variables ≡ cnf.now.variables }
     requires numbers { marks.old.numbers ≡ length cnf.now.clauses + length steps.now }
@@ -165,7 +167,7 @@ pub fn check_refutation(cnf: &Cnf, steps: &[Step], marks: &mut Marks) -> bool
     )
 }
 
-/// Deletes the clauses that these steps delete. A number that no clause has is skipped.
+/// Deletes the clauses that these steps delete, and checks nothing (see `delete_named`).
 fn delete_earlier(alive: &mut [bool], steps: &[Step])
     ensures { (cs : List (List Literal)) →
         known_of cs alive.new ≡ spec.known_after_steps (known_of cs alive.old) steps.now }
@@ -195,8 +197,9 @@ fn check_step_with(
     check_one(cnf.clauses(), earlier, alive, marks, 1, &steps[index])
 }
 
-/// Whether the step at this index, counted from 0, is right. The known clauses are those of the list and of the steps before it,
-/// except those that a step before it deletes. The steps before it need not be right. The check allocates nothing.
+/// Whether the step at this index, counted from 0, is right. The known clauses are those of the list and of the steps before
+/// it, except those that a step before it deletes. The steps before it need not be right. `marks` must have the sizes that
+/// `Marks::new` gives it for `cnf` and `steps`. The check allocates nothing.
 pub fn check_step(cnf: &Cnf, steps: &[Step], index: usize, marks: &mut Marks) -> bool
     requires exists { index < length steps.now }
     requires variables { marks.old.variables ≡ cnf.now.variables }

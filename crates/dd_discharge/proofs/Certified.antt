@@ -1,5 +1,5 @@
--- The result of a run, over the least common denominator, is a certificate: the columns meet the rows, the sum of dual times
--- coefficient is large enough in each column, and the duals are worth exactly column 0. Each of these statements about
+-- The result of a run, over the least common denominator, is a certified bound: the columns meet the rows, the sum of dual
+-- times coefficient is large enough in each column, and the duals are worth exactly column 0. Each of these statements about
 -- fractions becomes one about whole numbers.
 use Rattle.std.proofs.Common.{◌≡◌, ℕ, zero, suc, ◌+◌, ◌*◌, ◌/◌, ◌%◌, ◌<◌, ◌≤◌, List, [], ◌∷◌, ◌++◌, length, get_or, map, drop, slice_index, max, refl, sym, ap, subst, ◌∙◌, arith}
 use Rattle.std.proofs.lemmas.{Int.ints, Nat.Gcd.mod-eq-zero_of_dvd}
@@ -35,7 +35,7 @@ coefficient_is rows n k j =
 bound_is : (rows : List Row) (n k : ℕ) → bound_at (in_fractions rows n) k ≡ whole_of (pos (row_in rows k).bound)
 bound_is rows n k = ap (λ (r : _). r.bound) (numbered.get_or-map row_of_fractions rows k no_row)
 
--- the whole numbers that stand for the columns and for the duals
+-- if the fraction at j is at least 0, and its denominator divides c, then the number at j in the list of numerators, over c, is this fraction
 nonneg_at : (c : ℕ) (xs : List Exact) (j : ℕ) → j < length xs → den_of (fraction_at xs j) ∣ c → IsNonneg (fraction_at xs j)
     → IsOver c (pos (slice_index (map (numerator_over c) xs) j)) (fraction_at xs j)
 nonneg_at c xs j p d s =
@@ -117,7 +117,7 @@ amounts_size : (n c : ℕ) (xs : List Exact) → 0 < n → length xs ≡ n → 1
 amounts_size n c [] p e = absurd (omega (arith, p, e))
 amounts_size n c (x ∷ xs) p e = let size = length-map xs (numerator_over c) in omega (arith, size, e)
 
--- the left side of a row
+-- the left side of row k, as a numerator over the common denominator
 row_over : (rows : List Row) (n : ℕ) (value : Exact) (xs ys : List Exact) (b : Bound) → Ready rows n value xs ys b → (k : ℕ)
     → IsOver b.common (total_below (λ j. coefficient_in rows k j *ℤ column_value (pos (held_over b)) b.amounts j) n) (fraction_sum (λ j. times (coefficient (in_fractions rows n) k j) (fraction_at xs j)) n)
 row_over rows n value xs ys b r k =
@@ -146,7 +146,7 @@ meet rows n value xs ys b r = record {
       (above rows n value xs ys b r) (row_over rows n value xs ys b r k) (bound_over rows n b.common k) (r.best.feasible.rows k inside);
 }
 
--- a column's sum, and the worth of the duals
+-- the sum in column j, as a numerator over the common denominator
 sum_over : (rows : List Row) (n : ℕ) (value : Exact) (xs ys : List Exact) (b : Bound) → Ready rows n value xs ys b → (j : ℕ)
     → IsOver b.common (column_sum rows b.duals j) (fraction_sum (λ k. times (fraction_at ys k) (coefficient (in_fractions rows n) k j)) (length (map row_of_fractions rows)))
 sum_over rows n value xs ys b r j =
@@ -157,6 +157,7 @@ sum_over rows n value xs ys b r j =
     subst (λ (a : Exact). IsOver b.common (m *ℤ coefficient_in rows k j) (times (fraction_at ys k) a)) (sym (coefficient_is rows n k j))
     (over_times b.common m (coefficient_in rows k j) (fraction_at ys k) (dual_over rows n value xs ys b r k q))))
 
+-- what the duals are worth, as a numerator over the common denominator
 worth_over : (rows : List Row) (n : ℕ) (value : Exact) (xs ys : List Exact) (b : Bound) → Ready rows n value xs ys b
     → IsOver b.common (amounts.dual_worth rows b.duals) (dual_objective (in_fractions rows n) ys)
 worth_over rows n value xs ys b r =

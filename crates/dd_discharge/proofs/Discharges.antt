@@ -1,4 +1,4 @@
--- The run of a rule's program, and its bound.
+-- What the run over a program's rows gives, in terms of the rule: a bound, its certificate, or a fault.
 use Rattle.std.proofs.Common.{◌≡◌, ℕ, List, length, sym, subst, inl, inr}
 use Rattle.dd_lattice.specs.Place.{Place}
 use Rattle.dd_formula.specs.LocalRule.{LocalRule}
@@ -10,7 +10,7 @@ use Rattle.dd_discharge.specs.Certificates.{IsBoundCertificate}
 use Rattle.dd_rows.specs.declared.fault.RowsFault.TheVariants as rows
 use Rattle.dd_discharge.specs.declared.fault.DischargeFault.TheVariants as fault
 
--- the rows and the number of columns given to the run
+-- the run gets the program p: n is its number of columns, and rs are its rows
 pub record IsGiven (vs : List Place) (p : Rows) (n : ℕ) (rs : List Row) : Type 0 where
   pub columns : n ≡ column_count (length vs) (length p.patterns)
   pub rows_are : rs ≡ p.rows

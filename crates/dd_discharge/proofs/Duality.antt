@@ -1,7 +1,8 @@
--- Weak duality: no amounts let each position hold more than the duals are worth. What each position holds is the value of
--- column 0. It is at most the double sum of dual times coefficient times column. This is because the columns are at least 0,
--- and the sum, over the rows, of dual times coefficient is at least 1 in column 0 and at least 0 in the other columns. Taken
--- row by row, the double sum is at most the sum of dual times right side, since the rows hold and the duals are at least 0.
+-- Weak duality: no amounts let each position hold more than the duals are worth. Each position holds at least the value of
+-- column 0. This value is at most the double sum of dual times coefficient times column. This is because the columns are at
+-- least 0, and the sum, over the rows, of dual times coefficient is at least 1 in column 0 and at least 0 in the other columns.
+-- Taken row by row, the double sum is at most the sum of dual times right side, since the rows hold and the duals are at least
+-- 0. The latter sum is what the duals are worth.
 use Rattle.std.proofs.Common.{◌≡◌, ℕ, zero, suc, ◌+◌, ◌*◌, ◌/◌, ◌%◌, ◌<◌, ◌≤◌, List, [], ◌∷◌, length, refl, sym, ap, subst, ◌∙◌, slice_index, arith}
 use Rattle.std.proofs.lemmas.{Nat.div-add-mod', Int.ints}
 use lib.IntN.{ℤ, pos, negsuc, ◌+ℤ◌, ◌*ℤ◌, *ℤ_comm}
@@ -17,7 +18,7 @@ value_nonneg : (held : ℤ) (amounts : List ℕ) (j : ℕ) → pos 0 ≤ℤ held
 value_nonneg held amounts zero h = h
 value_nonneg held amounts (suc j) h = omega (arith, ints)
 
--- column by column, the double sum is at least what is held
+-- taken column by column, the double sum is at least `common` times `held`, if `held` is at least 0
 by_columns : (rows : List Row) (columns common : ℕ) (duals : List ℕ) (held : ℤ) (amounts : List ℕ) → 0 < columns → pos 0 ≤ℤ held → AreDualsOver rows columns common duals
     → (pos common *ℤ held) ≤ℤ total_below (λ j. column_sum rows duals j *ℤ column_value held amounts j) columns
 by_columns rows columns common duals held amounts z h d =
@@ -39,7 +40,7 @@ regrouped y a x m n =
     turned : (x y a : ℤ) → x *ℤ (y *ℤ a) ≡ y *ℤ (a *ℤ x)
     turned x y a = *ℤ_comm x (y *ℤ a) ∙ sym (times_times y a x)
 
--- row by row, the double sum is at most what the duals are worth
+-- taken row by row, the double sum is at most `common` times what the duals are worth
 by_rows : (rows : List Row) (columns common : ℕ) (duals : List ℕ) (held : ℤ) (amounts : List ℕ) → MeetRows rows columns common held amounts
     → total_below (λ k. pos (slice_index duals k) *ℤ total_below (λ j. coefficient_in rows k j *ℤ column_value held amounts j) columns) (length rows) ≤ℤ (pos common *ℤ dual_worth rows duals)
 by_rows rows columns common duals held amounts m =
@@ -70,10 +71,11 @@ weak_duality rows columns common other duals held amounts h d m =
     let high = by_rows rows columns other duals held amounts m in
     omega (arith, ints, low, same, high)
 
--- if the denominator q divides the common denominator n, then n is t * q for some t > 0
+-- if the denominator q divides the common denominator n, then n is n / q times q
 whole_part : (q n : ℕ) → n % q ≡ 0 → n ≡ n / q * q
 whole_part q n e = let parts = div-add-mod' n q in omega (arith, parts, e)
 
+-- if n is at least 1, and is t times q, then t is greater than 0
 above : (q n t : ℕ) → 1 ≤ n → n ≡ t * q → 0 < t
 above q n zero p e = absurd (omega (arith, p, e))
 above q n (suc t) p e = omega arith

@@ -1,4 +1,4 @@
--- Each denominator divides the least common denominator.
+-- Each denominator divides the least common denominator. The file also says when a number can be printed, and when a fraction is in lowest terms.
 use Rattle.std.proofs.Common.{◌≡◌, ℕ, zero, suc, ◌+◌, ◌*◌, ◌/◌, ◌<◌, ◌≤◌, List, [], ◌∷◌, length, get_or, drop, drop-cons, max, Bool, true, false, cond, Some, None, refl, sym, ap, subst, ◌∙◌, arith}
 use Rattle.std.proofs.{lemmas.Bool.lt-leb, lemmas.Bool.le-leb, lemmas.Bool.leb-true, lemmas.Bool.leb-false, Math.Dec.leb}
 use Rattle.std.proofs.{Math.Seq.drop-length, lemmas.Nat.Gcd.dvd_trans, lemmas.Nat.Gcd.dvd_refl, lemmas.Nat.Gcd.le_of_dvd}
@@ -98,7 +98,7 @@ unprinted n e = by (leb n most_number) refl e
     by true l e = absurd cc
     by false l e = leb-false n most_number l
 
--- one more fraction
+-- if joining all of xs to n gives the same as joining those from index i on to c, then x, the one at i, may be joined to c first
 pub joined_more : (n c i : ℕ) (xs : List Exact) (x : Exact) → i < length xs → x ≡ get_or xs i x → fold joined_denominator n xs ≡ fold joined_denominator c (drop i xs)
     → fold joined_denominator n xs ≡ fold joined_denominator (joined_denominator c x) (drop (i + 1) xs)
 joined_more n c i xs x p e h = h ∙ (ap (fold joined_denominator c) (drop-cons xs i x p) ∙ (ap (λ (y : Exact). fold joined_denominator (joined_denominator c y) (drop (suc i) xs)) (sym e) ∙ ap (λ (k : ℕ). fold joined_denominator (joined_denominator c x) (drop k xs)) (next i)))
@@ -118,7 +118,7 @@ joined_past n c i xs x z p e h none =
 pub joined_whole : (n c : ℕ) (xs : List Exact) → c ≤ most_number → fold joined_denominator n xs ≡ fold joined_denominator c (drop (length xs) xs) → Some c ≡ printed (fold joined_denominator n xs)
 joined_whole n c xs p h = let same : c ≡ fold joined_denominator n xs = sym (h ∙ ap (fold joined_denominator c) (drop-length xs)) in printed_some c p ∙ ap printed same
 
--- a fraction is in lowest terms exactly when reducing it doesn't change its denominator
+-- ---- a fraction is in lowest terms exactly when reducing it doesn't change its denominator
 reduced_coprime : (q g d : ℕ) → q * g ≡ d → 0 < d → q ≡ d → g ≡ 1
 reduced_coprime q zero d e p s = absurd (omega (arith, e, p))
 reduced_coprime q (suc zero) d e p s = refl

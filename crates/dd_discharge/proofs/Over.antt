@@ -100,6 +100,7 @@ times_over c n k a p =
     one : (d : ℕ) → d ≡ 1 * d
     one d = omega arith
 
+-- ---- a whole number, and the sum of n fractions
 pub over_whole : (c : ℕ) (k : ℤ) → IsOver c (k *ℤ pos c) (whole_of k)
 over_whole c k = record { cross = omega (arith, ints) }
 

@@ -16,7 +16,7 @@ use Rattle.dd_discharge.specs.Denominators.{joined_denominator, common_denominat
 use Rattle.dd_discharge.proofs.Multiples.{printed_is, printed_none, unprinted, joined_above, joined_grows, each_divides}
 use Rattle.dd_discharge.specs.declared.fault.DischargeFault.TheVariants as fault
 
--- ---- the least common denominator of two lists
+-- ---- least common denominators: that of two lists together, and that of one list
 pub common_past : (xs ys : List Exact) → None ≡ printed (common_denominator xs) → None ≡ printed (common_denominator (xs ++ ys))
 common_past xs ys none =
     let past = unprinted (common_denominator xs) none in
@@ -101,6 +101,7 @@ pub signed_is : (z : ℤ) → pos 0 ≤ℤ z → pos (unsigned_abs z) ≡ z
 signed_is (pos n) p = refl
 signed_is (negsuc n) p = absurd (omega (arith, ints, p))
 
+-- ---- all numbers of the run's result
 held_all : (v : Exact) (xs : List Exact) (P : Exact → Type 0) → 0 < length xs → fraction_at xs 0 ≡ v → P v → All P (drop 1 xs) → All P xs
 held_all v [] P p e h all = absurd (omega (arith, p))
 held_all v (x ∷ xs) P p e h all = one_all P x xs (subst P (sym e) h) all

@@ -1,4 +1,5 @@
--- The shape of a program's rows: a coefficient from -1 to 1 for each column, and a small bound. The first row caps column 0.
+-- The shape of a program's rows: a coefficient from -1 to 1 for each column, and a right side of at most 4,000. The first row
+-- says that column 0 is at most a cap.
 use Rattle.std.proofs.Common.{◌≡◌, ℕ, zero, suc, ◌+◌, ◌-◌, ◌*◌, ◌<◌, ◌≤◌, Bool, true, false, cond, List, [], ◌∷◌, ◌++◌, length, map, replicate, refl, sym, ap, subst, ◌∙◌, length-append, arith}
 use Rattle.std.proofs.{lemmas.List.length-map, lemmas.List.length-replicate, Math.Nat.mul-le-mul_right}
 use Rattle.std.proofs.lemmas.List.FromFn.{length-range_with_len}
@@ -113,7 +114,7 @@ capped_row x ws vs ps few small =
       bound = product_small x.nodes (greatest ws) few (greatest_small ws small);
     }
 
--- ---- the rows, each once, where it is first seen
+-- ---- each row once, where it is first seen
 all_add : (P : Row → Type 0) (b : Bool) (rs : List Row) (r : Row) → All P rs → P r → All P (cond b rs (rs ++ r ∷ []))
 all_add P true rs r h p = h
 all_add P false rs r h p = All-append P rs (r ∷ []) h (All-cons P r [] p (All-nil P))

@@ -1,6 +1,6 @@
 -- What certifies a bound, in whole numbers over a common denominator. Column 0 of a program stands for a number such that each
--- position holds at least this number. Each other column stands for an amount that positions give. The duals are factors of the
--- rows; they show that no other amounts let each position hold more.
+-- position holds at least this number. Each other column stands for an amount that positions give. The duals are factors for
+-- the rows; they show that no other amounts let each position hold more.
 use Rattle.std.specs.Prelude.{ℕ, zero, suc, ◌+◌, ◌*◌, ◌/◌, ◌%◌, ◌<◌, ◌≤◌, ◌≡◌, ℤ, pos, ◌+ℤ◌, ◌*ℤ◌, ◌≤ℤ◌, List, [], length, slice_index, slice_index_or}
 use Rattle.dd_fraction.specs.Exact.{IsLowest}
 use Rattle.dd_rows.specs.declared.rows.Row.{Row}
@@ -24,7 +24,8 @@ abbrev pub column_value : ℤ → List ℕ → ℕ → ℤ
 column_value held amounts zero = held
 column_value held amounts (suc j) = pos (slice_index amounts j)
 
--- each row holds for these values, with its right side multiplied by the common denominator
+-- There is an amount for each column after the first. Each row holds for `held` and the amounts, if its right side is
+-- multiplied by the common denominator.
 pub record MeetRows (rows : List Row) (columns common : ℕ) (held : ℤ) (amounts : List ℕ) : Type 0 where
   pub size : 1 + length amounts ≡ columns
   pub each : (k : ℕ) → k < length rows
@@ -49,8 +50,8 @@ pub record AreDualsOver (rows : List Row) (columns common : ℕ) (duals : List �
 abbrev pub held_over : Bound → ℕ
 held_over b = b.numerator * (b.common / b.denominator)
 
--- The bound is in lowest terms, and its denominator divides the common denominator, which is at least 1. With the amounts, each
--- position holds at least the bound. The duals are as in `AreDualsOver`, and worth exactly the bound.
+-- The bound is in lowest terms, and its denominator divides the common denominator, which is at least 1. The rows hold for the
+-- bound and its amounts. The duals are as in `AreDualsOver`, and worth exactly the bound.
 pub record IsCertifiedBound (rows : List Row) (columns : ℕ) (b : Bound) : Type 0 where
   pub lowest : IsLowest (record { num = pos b.numerator; den = b.denominator })
   pub some : 1 ≤ b.common

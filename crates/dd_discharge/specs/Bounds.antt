@@ -35,14 +35,14 @@ pub record EndsUnprinted (p : LinearProgram) (pivots : ℕ) : Type 0 where
   pub ends : RunEnds p pivots value columns duals
   pub unprinted : HasUnprinted (columns ++ duals)
 
--- what each fault says of a run that gives no bound
+-- what each fault says of a run that gives no bound; a run never fails with `Large`, and `Memory` says nothing
 abbrev pub GivesNone : LinearProgram → ℕ → DischargeFault → Type 0
 GivesNone p pivots fault.Large = ⊥
 GivesNone p pivots fault.Overflow = RunOverflows p pivots ⊎ EndsUnprinted p pivots
 GivesNone p pivots fault.Pivots = RunPivots p pivots
 GivesNone p pivots fault.Memory = Unit {0}
 
--- the linear program of p; p is the program of a rule along this many vectors
+-- the linear program of p, if p is the program of a rule along `vectors` vectors
 abbrev pub linear_program : ℕ → Rows → LinearProgram
 linear_program vectors p = in_fractions (column_count vectors (length p.patterns)) p.rows
 
@@ -64,7 +64,7 @@ pub record StopsAtPivots (x : LocalRule) (ws : List ℕ) (radius margin : ℕ) (
   pub is_program : IsProgramOf x ws radius margin vs program
   pub stops : RunPivots (linear_program (length vs) program) pivots
 
--- what each fault says of the rule
+-- what each fault says of the discharge; `Memory` says nothing
 abbrev pub IsDischargeFault : LocalRule → List ℕ → ℕ → ℕ → List Place → ℕ → DischargeFault → Type 0
 IsDischargeFault x ws radius margin vs pivots fault.Large = IsLargeProgram x ws radius margin vs
 IsDischargeFault x ws radius margin vs pivots fault.Overflow = Overflows x ws radius margin vs pivots

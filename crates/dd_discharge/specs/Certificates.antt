@@ -11,7 +11,7 @@ pub record IsBoundCertificate (x : LocalRule) (ws : List ℕ) (radius margin : �
   pub is_program : IsProgramOf x ws radius margin vs program
   pub certified : IsCertifiedBound program.rows (column_count (length vs) (length program.patterns)) b
 
--- no amounts meet the rows of the rule's program with more than p / q in column 0
+-- the rule has a program along the vectors, and no amounts meet its rows with more than p / q in column 0
 pub record BestOf (x : LocalRule) (ws : List ℕ) (radius margin : ℕ) (vs : List Place) (p q : ℕ) : Type 0 where
   pub program : Rows
   pub is_program : IsProgramOf x ws radius margin vs program

@@ -1,5 +1,5 @@
--- Fractions of at least 0 over their least common denominator, as a bound has them. A number can be printed if it is at most
--- `most_number`.
+-- Fractions written over their least common denominator, as in a bound. The fractions are at least 0. A number can be printed
+-- if it is at most `most_number`.
 use Rattle.std.specs.Prelude.{ℕ, ◌*◌, ◌/◌, ◌<◌, ◌≤◌, ◌≡◌, ◌⊎◌, pos, List, ◌++◌, map, drop, unsigned_abs, Option, Some, None, cond, nat_le}
 use Rattle.std.specs.List.{fold, All, Any}
 use Rattle.dd_values.specs.Bounds.{most_number}
@@ -35,7 +35,9 @@ pub record ArePrinted (xs : List Exact) : Type 0 where
 abbrev pub HasUnprinted : List Exact → Type 0
 HasUnprinted xs = (most_number < common_denominator xs) ⊎ Any (λ a. most_number < numerator_over (common_denominator xs) a) xs
 
--- b is the bound with this value, with the columns after the first as amounts, and with these duals; columns and duals can be printed
+-- b is the bound with this value, with the columns after the first as amounts, and with these duals. The amounts and the duals
+-- are over the least common denominator of the columns and the duals. This denominator, and each numerator over it, can be
+-- printed.
 pub record IsPrintedAs (value : Exact) (columns duals : List Exact) (b : Bound) : Type 0 where
   pub printed : ArePrinted (columns ++ duals)
   pub numerator_is : pos b.numerator ≡ value.num

@@ -1,4 +1,4 @@
--- What a fault says.
+-- The reason for an `Overflow`, and which fault of a discharge comes from each fault of its program and of its run.
 use Rattle.dd_rows.specs.declared.fault.RowsFault.{RowsFault}
 use Rattle.dd_rows.specs.declared.fault.RowsFault.TheVariants as rows
 use Rattle.dd_discharge.specs.declared.fault.DischargeFault.{DischargeFault}

@@ -25,7 +25,7 @@ fn fractions(alloc: Global, numbers: &[i64]) -> Result<Vec<Fraction>, AllocError
     Ok(fractions)
 }
 
-/// The linear program of the rows. The first row bounds column 0 alone, and becomes the program's cap.
+/// The linear program of the rows. The first row says that column 0 is at most some number, which becomes the program's cap.
 fn linear_program(alloc: Global, rows: &[Row], columns: u32) -> Result<Program, AllocError>
     requires { AreRowsOf columns rows.now }
     ensures { IfOk result (λ program. program ≡ in_fractions columns rows.now) }

@@ -2,7 +2,7 @@
 use dd_values::Items;
 
 /// A bound in lowest terms, with its amounts and its duals over a common denominator. The amounts are those that positions
-/// give. The duals are factors of the program's rows; they show that no amounts do better.
+/// give. The duals are factors for the program's rows; they show that no amounts do better.
 #[derive(Debug, Drop)]
 pub struct Bound {
     /// The bound's numerator, in lowest terms.
@@ -11,7 +11,8 @@ pub struct Bound {
     pub denominator: u64,
     /// The common denominator of the amounts and the duals, at least 1.
     pub common: u64,
-    /// The numerators of the amounts, one for each column of the program after the first.
+    /// The numerators of the amounts, one for each column of the program after the first: vector by vector, and for each vector
+    /// pattern by pattern.
     pub amounts: Items<u64>,
     /// The numerators of the duals, one for each row of the program.
     pub duals: Items<u64>,

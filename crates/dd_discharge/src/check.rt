@@ -80,7 +80,7 @@ fn worth(rows: &[Row], columns: usize, duals: &[u64]) -> u128
     sum
 }
 
-/// Whether each row holds for these values, with its right side multiplied by the common denominator.
+/// Whether each row holds for `held` and the amounts, if its right side is multiplied by the common denominator.
 fn meets_rows(rows: &[Row], columns: usize, common: u64, held: u128, amounts: &[u64]) -> bool
     requires rows { AreRowsOf columns rows.now }
     requires held { held ≤ 2 ^ 80 }
@@ -118,7 +118,8 @@ fn are_duals(rows: &[Row], columns: usize, common: u64, duals: &[u64]) -> bool
     true
 }
 
-/// Whether the fraction is in lowest terms, that is, whether reducing it leaves its denominator unchanged.
+/// Whether the fraction is in lowest terms, that is, whether reducing it leaves its denominator unchanged. False if the
+/// denominator is 0.
 fn is_in_lowest_terms(numerator: u64, denominator: u64) -> bool
     ensures yes { result ≡ true → IsLowest (record { num = pos numerator; den = denominator }) }
     ensures no { result ≡ false → IsLowest (record { num = pos numerator; den = denominator }) → ⊥ }

@@ -16,11 +16,14 @@ use std::alloc::{AllocError, Global};
 ///
 /// - The rule's program is within its limits.
 /// - The bound is in lowest terms, and its denominator divides the common denominator, which is at least 1.
-/// - With the amounts, each position holds at least the bound.
+/// - There is an amount for each column of the program after the first. The rows hold for the bound and the amounts, so each
+///   position holds at least the bound.
+/// - There is a dual for each row. In each column, take the sum, over the rows, of dual times coefficient. It is at least 1 in
+///   column 0, and at least 0 in every other column.
 /// - The duals are worth exactly the bound, so no amounts do better.
 ///
-/// There is one weight for each symbol. The radius is that of the boxes whose symbols are the patterns. The margin is that of
-/// the program's ground (see `dd_rows`). The claimed numerator and the claimed common denominator must be at most 2^40.
+/// The weights, the radius, the margin and the vectors are as in `discharge`. The claimed numerator and the claimed common
+/// denominator must be at most 2^40.
 ///
 /// # Errors
 /// `AllocError` if memory ran out.

@@ -1,5 +1,5 @@
-//! Fractions of at least 0 over their least common denominator, as a bound has them. A number can be printed if it is at most
-//! 2^40.
+//! Fractions written over their least common denominator, as in a bound. The fractions are at least 0. A number can be printed
+//! if it is at most 2^40.
 ghost use Rattle.std.specs.Prelude.{◌≡◌, ◌<◌, ◌≤◌, ◌++◌, length, map, IfOk, OnOk, IfErr};
 ghost use Rattle.std.specs.List.{fold, All, Any};
 ghost use Rattle.dd_values.specs.Bounds.{most_number};
@@ -62,7 +62,8 @@ fn common_denominator(columns: &[Fraction], duals: &[Fraction]) -> Option<u64>
     joined_all(common, duals)
 }
 
-/// The numerator of the fraction over the denominator `common`, if it can be printed.
+/// The numerator of the fraction over the denominator `common`, if it can be printed. The fraction's denominator divides
+/// `common`.
 fn numerator_over(common: u64, fraction: &Fraction) -> Option<u64>
     ensures { result ≡ printed (numerator_over common fraction.now) }
 {
@@ -110,7 +111,8 @@ pub(crate) fn bound_of(
     let Some(common) = common_denominator(columns, duals) else {
         return Err(DischargeFault::Overflow);
     };
-    // The first column is the value. Its numerator is not listed, but it has to be small enough to be printed.
+    // The first column is the value. Its numerator over `common` is not among the amounts, but must be small enough to be
+    // printed too.
     let Some(_held) = numerator_over(common, value) else {
         return Err(DischargeFault::Overflow);
     };

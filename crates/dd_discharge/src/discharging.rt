@@ -16,17 +16,18 @@ use std::alloc::Global;
 
 /// The best bound of the rule along the vectors. Along each vector, each position gives an amount that the pattern around it
 /// determines. The bound is the greatest number c for which, with some amounts, the rows of the rule's program hold: c is at
-/// most the greatest weight that a position can have, and in each admissible filling of the ground the origin holds at least c
-/// in the end. The result also has such amounts, and duals that show that no amounts do better. `dd_simplex` finds all of
-/// these: it solves the program in at most `pivots` pivots.
+/// most the number of nodes times the greatest weight, and in each admissible filling of the ground the origin holds at least c
+/// in the end. The result also has such amounts, and duals that show that no amounts do better. A simplex run of at most
+/// `pivots` pivots finds all of these.
 ///
-/// There is one weight for each symbol. The radius is that of the boxes whose symbols are the patterns. The margin is that of
-/// the program's ground (see `dd_rows`).
+/// There is one weight for each symbol, at most 1,000. There are 1 to 16 vectors, all different. Their coordinates are at most
+/// 4 in absolute value, and 0 along the axes past the rule's dimension. The radius is that of the boxes whose symbols are the
+/// patterns. The margin is that of the program's ground (see `dd_rows`).
 ///
 /// # Errors
-/// - `Large` if the program passes a limit on its size (see `program_of`).
-/// - `Overflow` if a number of the run is greater than 2^127 - 1 in absolute value, or a number of its result, over the least
-///   common denominator, is greater than 2^40.
+/// - `Large` if the program exceeds a limit on its size (see `program_of`).
+/// - `Overflow` if a number of the run is greater than 2^127 - 1 in absolute value, or if the least common denominator of its
+///   result, or a numerator over it, is greater than 2^40.
 /// - `Pivots` if the run has not ended after `pivots` pivots.
 /// - `Memory` if memory ran out.
 pub fn discharge(

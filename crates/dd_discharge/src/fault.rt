@@ -12,8 +12,8 @@ pub enum DischargeFault {
     /// The program exceeds a limit on its size.
     #[error("the program of the discharge is too large")]
     Large,
-    /// A number in the simplex run is greater than 2^127 - 1 in absolute value, or a number of its result, over the least
-    /// common denominator, is greater than 2^40.
+    /// A number of the simplex run is greater than 2^127 - 1 in absolute value, or the least common denominator of its result,
+    /// or a numerator over it, is greater than 2^40.
     #[error("a number of the discharge is too large")]
     Overflow,
     /// The simplex run needs more pivots than its limit allows.

@@ -1,7 +1,8 @@
-//! Variables are resolved away (Davis and Putnam 1960) where that leaves no more clauses than before: the clauses that have the
-//! variable or its negation are replaced by all their resolvents on it. A clause that contains all literals of another is
-//! removed, and a literal that another clause makes redundant is dropped (Eén and Biere 2005). Each new clause is a step of a
-//! derivation. The step's hints are the two clauses that the new clause comes from.
+//! The elimination of variables by resolution. To eliminate a variable, the clauses that have it or its negation are replaced
+//! by all their resolvents on it (Davis and Putnam 1960), except those that hold a literal and its negation. This is done only
+//! if it leaves no more clauses than before. A clause that contains all literals of another is removed, and a literal that
+//! another clause makes redundant is dropped (Eén and Biere 2005). Each new clause is the clause of a step. The step's hints
+//! are the numbers of the two clauses that the new clause comes from. (See the file `resolution.rt` for resolvents.)
 //!
 //! No contract depends on what is done here, since the answer for the whole list is checked. No invariant says that the indices
 //! kept here are within their lists. So the code tests them. The tests never fail.
@@ -18,7 +19,8 @@ const MOST_PAIRS: usize = 1000;
 /// A variable is kept if one of its resolvents has more literals than this.
 const MOST_LITERALS: usize = 20;
 
-/// The greatest number of rounds. Each round tries the variables whose clauses changed.
+/// The greatest number of rounds. The first round tries all variables, and each later one those whose clauses changed since
+/// they were last tried.
 const ROUNDS: usize = 10;
 
 /// Roughly the greatest number of pairs of literals that are compared. To compare so many takes about half a second.
@@ -30,8 +32,8 @@ pub(crate) struct Entry {
     pub literals: Vec<Literal>,
     /// The number of the clause, as a step names it in its hints.
     pub number: u64,
-    /// A bit for each variable of the clause: the one at its number modulo 64. If one clause's signature has a bit that
-    /// another's lacks, the first clause has a variable that the second lacks.
+    /// For each variable of the clause, the bit at the variable's number modulo 64 is set. If one clause's signature has a bit
+    /// that another's lacks, the first clause has a variable that the second lacks.
     signature: u64,
     /// Whether the clause is still in the list.
     pub is_alive: bool,
@@ -75,8 +77,8 @@ pub(crate) struct Elimination {
     pub entries: Vec<Entry>,
     /// For each variable, by its number, the indices of the entries that have it or its negation. Some may not be alive.
     occurrences: Vec<Vec<usize>>,
-    /// For each variable, by its number, whether it is to be tried: true at first, false once it was tried, and true again once a
-    /// clause with it or its negation is removed.
+    /// For each variable, by its number, whether it is to be tried: true at first, false once it was tried, and true again once
+    /// a clause with it or its negation is removed.
     changed: Vec<bool>,
     /// The indices of the entries that have not been compared with the others yet.
     waiting: Vec<usize>,
@@ -103,13 +105,13 @@ fn is_alive(entries: &[Entry], index: usize) -> bool {
     }
 }
 
-/// How many pairs of literals of two lists there are.
+/// How many pairs there are of a literal of the first list and a literal of the second.
 fn pairs_of(first: &[Literal], second: &[Literal]) -> u64 {
     (first.len() as u64).saturating_mul(second.len() as u64)
 }
 
 impl Elimination {
-    /// The list without the variables that can be eliminated. `None` if the clauses are too long.
+    /// The list after at most `ROUNDS` rounds of elimination. `None` if the clauses are too long (see `start`).
     pub(crate) fn of(alloc: Global, cnf: &Cnf) -> Result<Option<Elimination>, AllocError> {
         let mut elimination = Elimination::start(alloc, cnf)?;
         if elimination.work == 0 {
@@ -124,8 +126,9 @@ impl Elimination {
         Ok(Some(elimination))
     }
 
-    /// The whole list, each clause with distinct variables. Clauses that hold a literal and its negation are left out. If the
-    /// clauses are too long, `work` falls to 0, and the rest of them is left out too.
+    /// The whole list, each clause with distinct variables. Clauses that hold a literal and its negation are left out. Each
+    /// clause takes the square of its length from `work`. If `work` falls to 0, the clauses are too long, and the rest of them
+    /// is left out too.
     fn start(alloc: Global, cnf: &Cnf) -> Result<Elimination, AllocError> {
         let count = cnf.variables() as usize + 1;
         let mut occurrences: Vec<Vec<usize>> = Vec::with_capacity(alloc, count)?;
@@ -295,8 +298,8 @@ impl Elimination {
         Ok(())
     }
 
-    /// Drops the literal of the variable from the clause at `other`: replaces this clause by a new one, which follows from it and
-    /// from the clause at `index`.
+    /// Drops the literal of the variable from the clause at `other`: replaces this clause by a new one, which follows from it
+    /// and from the clause at `index`.
     fn shorten(
         &mut self,
         alloc: Global,
@@ -326,8 +329,8 @@ impl Elimination {
         Ok(any_eliminated)
     }
 
-    /// The variables whose clauses changed, those with the fewest pairs first. Variables that are in no clause, or that have more
-    /// than `MOST_PAIRS` pairs, are left out.
+    /// The variables whose clauses changed, those with the fewest pairs first. Variables that are in no clause, or that have
+    /// more than `MOST_PAIRS` pairs, are left out.
     fn candidates(&mut self, alloc: Global) -> Result<Vec<Candidate>, AllocError> {
         let mut candidates: Vec<Candidate> = Vec::new(alloc);
         for variable in 1..=self.variables {
@@ -448,8 +451,8 @@ impl Elimination {
         length
     }
 
-    /// The resolvents of each clause with the variable and each clause with its negation, except those that hold a literal and
-    /// its negation.
+    /// The resolvents of each clause that has the variable with each clause that has its negation, except those that hold a
+    /// literal and its negation.
     fn resolvents(
         &mut self,
         alloc: Global,

@@ -1,9 +1,9 @@
 //! The list without the variables that unit propagation fixes, and the way back: from an answer for it to an answer for the
 //! whole list. A clause with a true literal, or with a literal and its negation, is left out. From the other clauses the false
-//! literals are dropped.
+//! literals and the repeated ones are dropped.
 //!
-//! This makes the search faster. On the whole list, it would meet fixed variables in each conflict, and each time would have to
-//! resolve with the clauses that force their values.
+//! This makes the search faster. On the whole list, the search would meet fixed variables in its conflicts, and each time it
+//! would have to resolve with the clauses that force their values.
 use crate::propagation::{Fixed, code_of};
 use crate::whole::renumbered_step;
 use dd_clause::{Assignment, Clause, Cnf, Literal};
@@ -281,8 +281,8 @@ impl<'a> Derived<'a> {
         })
     }
 
-    /// The hints for dropping the false literals of a clause of the list: the numbers of the clauses that make them false, and then
-    /// the number of the clause itself.
+    /// The hints for dropping the false literals of a clause of the whole list: the numbers of the clauses that make them
+    /// false, and then the number of the clause itself.
     fn hints(&mut self, alloc: Global, origin: usize) -> Result<Vec<u64>, AllocError> {
         let mut hints: Vec<u64> = Vec::new(alloc);
         let Some(clause) = self.whole.get(origin) else {
@@ -304,8 +304,8 @@ impl<'a> Derived<'a> {
         Ok(hints)
     }
 
-    /// The number of the clause that is left if the false literals of the clause at `origin` are dropped. If there are any,
-    /// adds a step that derives the shorter clause. `literals` are the literals that are left.
+    /// The number of the clause that remains when the false literals of the clause at `origin` are dropped. If it has false
+    /// literals, adds a step that derives the shorter clause. `literals` are the literals that remain.
     fn number(
         &mut self,
         alloc: Global,
@@ -324,7 +324,7 @@ impl<'a> Derived<'a> {
         Ok((self.whole.len() as u64).saturating_add(self.steps.len() as u64))
     }
 
-    /// Derives the literals of the needed variables.
+    /// For each fixed variable that is needed, derives the clause that has only its true literal.
     fn push_units(&mut self, alloc: Global, needed: &[bool]) -> Result<(), AllocError> {
         for forced in self.fixed.forced.as_slice() {
             let variable = forced.literal.variable;
@@ -338,7 +338,7 @@ impl<'a> Derived<'a> {
         Ok(())
     }
 
-    /// Derives the remaining clauses that are hinted.
+    /// Derives the remaining clauses that are hinted, and fills `numbers`.
     fn push_shortened(
         &mut self,
         alloc: Global,

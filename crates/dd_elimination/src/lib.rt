@@ -1,10 +1,12 @@
-//! The elimination of variables from a list of clauses, and the search on the clauses that are left. There are two ways to
-//! eliminate variables. In `solve_propagated`, unit propagation eliminates those that it fixes. In `solve_reduced`, resolution
-//! is used.
+//! The elimination of variables from a list of clauses, and the search on the clauses that remain. There are two ways to
+//! eliminate variables. `solve_propagated` eliminates those whose values unit propagation fixes. `solve_reduced` eliminates
+//! variables by resolution: the clauses that have a variable or its negation are replaced by resolvents. A resolvent follows
+//! from two of these clauses, and doesn't have the variable.
 //!
-//! The whole list is the list before the elimination. An answer for a list is an assignment that satisfies it, or a refutation:
-//! a list of steps. Each step has a clause that follows from clauses before it, and hints: the numbers of the clauses that show
-//! this. The last step's clause is empty. The search gives an answer for the clauses that are left. An answer for the whole
+//! The whole list is the list before the elimination. The reduced list is made of the remaining clauses. An answer for a list
+//! is an assignment that satisfies it, or a refutation: a list of steps. Each step has a clause that follows from clauses
+//! before it, and hints: the numbers of the clauses that show this. First the clauses of the list are numbered, from 1, and
+//! then the steps. The last step's clause is empty. The search gives an answer for the reduced list. An answer for the whole
 //! list is made from it and checked.
 #![tactic(auto, using(std::proofs::lemmas::Grind::common_steps))]
 

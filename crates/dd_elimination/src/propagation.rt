@@ -1,8 +1,9 @@
-//! Unit propagation on a whole list. A clause of one literal fixes the value of the literal's variable. If all literals of a
-//! clause but one have become false, the clause makes the remaining one true, and so fixes the value of its variable.
+//! Unit propagation on the whole list. A clause of one literal fixes the value of the literal's variable. If all literals of a
+//! clause but one have become false, the clause forces the remaining one: it makes this literal true, and so fixes the value of
+//! its variable.
 //!
-//! No contract depends on what is done here, and no invariant says that the indices kept here are within their lists. So the code
-//! tests them. The tests never fail.
+//! No contract depends on what is done here, and no invariant says that the indices kept here are within their lists. So the
+//! code tests them. The tests never fail.
 use dd_clause::{Clause, Cnf, Literal};
 use std::alloc::{AllocError, Global};
 
@@ -16,7 +17,7 @@ pub(crate) struct Forced {
 /// The literals that unit propagation makes true.
 #[derive(Drop)]
 pub(crate) struct Fixed {
-    /// The value of each variable that is fixed, at the index of its number.
+    /// For each variable, at the index that is its number, its value if it is fixed.
     pub values: Vec<Option<bool>>,
     /// The literals, in the order in which they became true.
     pub forced: Vec<Forced>,
@@ -47,7 +48,7 @@ pub(crate) fn code_of(literal: Literal) -> usize {
     if literal.positive { even + 1 } else { even }
 }
 
-/// Adds 1 to the count at a place, and returns what it was.
+/// Adds 1 to the count at a place, and returns the count before.
 fn raise(counts: &mut [u32], place: usize) -> usize {
     let Some(count) = counts.get_mut(place) else {
         return 0;
@@ -151,7 +152,8 @@ impl<'a> Propagation<'a> {
                 return Ok(false);
             }
         }
-        // The loop ends long before its bound. A `while` would need a proof that it ends, and nothing is proved of the literals.
+        // The loop ends long before its bound. A `while` would need a proof that it ends, and nothing is proved of the
+        // literals.
         for read in 0..usize::MAX {
             let Some(forced) = self.fixed.forced.get(read).copied() else {
                 break;
@@ -163,8 +165,8 @@ impl<'a> Propagation<'a> {
         Ok(true)
     }
 
-    /// Counts this literal as false in each clause that contains it, and looks at those that then have at most one literal left.
-    /// Returns false if one of them is falsified.
+    /// Counts this literal as false in each clause that contains it, and looks at those in which at most one literal has not
+    /// been counted as false yet. Returns false if one of them is falsified.
     fn read(&mut self, literal: Literal) -> Result<bool, AllocError> {
         let code = code_of(literal);
         for place in self.occurrences.start(code)..self.occurrences.start(code.saturating_add(1)) {
@@ -179,8 +181,8 @@ impl<'a> Propagation<'a> {
         Ok(true)
     }
 
-    /// Looks at a clause that has at most one literal without a value. If all its other literals are false, makes this one
-    /// true. Returns false if all literals are false.
+    /// Looks at a clause that has at most one literal without a value. If it has one, and all its other literals are false,
+    /// makes this one true. Returns false if all its literals are false.
     fn look_at(&mut self, index: usize) -> Result<bool, AllocError> {
         let Some(clause) = self.clauses.get(index) else {
             return Ok(true);

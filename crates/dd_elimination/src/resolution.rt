@@ -1,6 +1,6 @@
 //! Resolution: two clauses, one with a variable and one with its negation, give a third clause, their resolvent on this
-//! variable. It has all their other literals, and follows from them. In each list of literals here, the literals have different
-//! variables. Only the list that is given to `distinct` may be any list.
+//! variable. The resolvent has all other literals of the two clauses, and follows from these clauses. In each list of literals
+//! that is given to a function here, the literals have different variables. Only `distinct` takes any list.
 use dd_clause::Literal;
 use std::alloc::{AllocError, Global};
 

@@ -15,8 +15,9 @@ use std::alloc::{AllocError, Global};
 const MOST_CLAUSES: usize = 200_000;
 
 /// Finds an assignment that satisfies the clauses, or steps that refute them. The variables that unit propagation fixes are
-/// eliminated first. Then the clauses that are left are searched in the given style. On the clauses of questions about boxes
-/// and tori, this is faster than `solve_with` of `dd_solver`, and most long refutations are shorter.
+/// eliminated first, unless this propagation falsifies a clause. Then the clauses that remain are searched in the given style
+/// (see `Style` in `dd_trail`). On the clauses of questions about boxes and tori, this is faster than `solve_with` of
+/// `dd_solver`, and most long refutations are shorter.
 ///
 /// # Errors
 /// `AllocError` if memory ran out.
@@ -29,8 +30,8 @@ pub fn solve_propagated(alloc: Global, cnf: &Cnf, style: Style) -> Result<Outcom
 }
 
 /// Finds an assignment that satisfies the clauses, or steps that refute them. Variables are eliminated by resolution first,
-/// unless the list has more than 200,000 clauses, or too many literals. On clauses that ask for a weight below a bound, this is
-/// faster than `solve` of `dd_solver`.
+/// unless there are more than 200,000 clauses, or the squares of their lengths add up to 100,000,000 or more. On clauses that
+/// ask for a weight below a bound, this is faster than `solve` of `dd_solver`.
 ///
 /// # Errors
 /// `AllocError` if memory ran out.
@@ -73,8 +74,8 @@ fn find_propagated(alloc: Global, cnf: &Cnf, style: Style) -> Result<Option<Outc
     }
 }
 
-/// The answer that `find_reduced` makes, if the list isn't too long for it. If there is none, the answer of a search on the whole
-/// list.
+/// The answer that `find_reduced` makes, if the list has at most `MOST_CLAUSES` clauses. If there is none, the answer of a
+/// search on the whole list.
 fn reduced_answer(alloc: Global, cnf: &Cnf) -> Result<Outcome, AllocError>
     ensures { IfOk result (IsAnswer cnf.now.variables cnf.now.clauses) }
 {
@@ -86,8 +87,8 @@ fn reduced_answer(alloc: Global, cnf: &Cnf) -> Result<Outcome, AllocError>
     solve(alloc, cnf)
 }
 
-/// Searches the reduced list, and makes an answer for the whole list from the result. `None` if the clauses are too long to
-/// reduce. It would also be `None` if the answer were wrong, but this never happens.
+/// Searches the reduced list, and makes an answer for the whole list from the result. `None` if the clauses are too long (see
+/// `Elimination::of`). It would also be `None` if the answer were wrong, but this never happens.
 fn find_reduced(alloc: Global, cnf: &Cnf) -> Result<Option<Outcome>, AllocError>
     ensures { IfOk result (λ found. IfSome found (IsAnswer cnf.now.variables cnf.now.clauses)) }
 {

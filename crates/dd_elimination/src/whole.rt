@@ -1,4 +1,5 @@
-//! The list that is left after the elimination, and the way back: from an answer for it to an answer for the whole list.
+//! The reduced list after the elimination by resolution, and the way back: from an answer for it to an answer for the whole
+//! list.
 use crate::elimination::{Eliminated, Elimination};
 use dd_clause::{Assignment, Clause, Cnf, Literal};
 use dd_derivation::Step;
@@ -29,8 +30,9 @@ fn has_other_true(literals: &[Literal], variable: u32, values: &[bool]) -> bool 
     false
 }
 
-/// Replaces clause numbers of the reduced list by those of the whole list. `numbers` has the new number of each clause of the
-/// reduced list. In the whole list, `before` clauses and steps come before the steps of the search.
+/// Replaces numbers in a refutation of the reduced list by those in the refutation of the whole list. `numbers` has the new
+/// number of each clause of the reduced list. In the refutation of the whole list, `before` clauses and steps come before the
+/// steps of the search.
 fn renumbered(numbers: &[u64], before: u64, old: Items<u64>) -> Items<u64> {
     let count = numbers.len() as u64;
     let mut renumbered = old.into_vec();
@@ -45,7 +47,7 @@ fn renumbered(numbers: &[u64], before: u64, old: Items<u64>) -> Items<u64> {
     Items::from_vec(renumbered)
 }
 
-/// The step with the numbers of the whole list in its hints and deletes, as by `renumbered`.
+/// The step, with the numbers of its hints and of the clauses that it deletes replaced as in `renumbered`.
 pub(crate) fn renumbered_step(numbers: &[u64], before: u64, step: Step) -> Step {
     let Step {
         clause,
@@ -81,8 +83,8 @@ impl Elimination {
         Ok(Some(Reduced { cnf, numbers }))
     }
 
-    /// An assignment that satisfies the whole list, if the given one satisfies the reduced list. The variable that was eliminated
-    /// last gets its value first.
+    /// An assignment that satisfies the whole list, if the given one satisfies the reduced list. The variable that was
+    /// eliminated last gets its value first.
     pub(crate) fn extended(
         &self,
         alloc: Global,
@@ -111,8 +113,8 @@ impl Elimination {
         false
     }
 
-    /// The steps of the elimination, and after them those of the search. Together they refute the whole list, if the steps of the
-    /// search refute the reduced list.
+    /// The steps of the elimination, and after them those of the search. Together they refute the whole list, if the steps of
+    /// the search refute the reduced list.
     pub(crate) fn into_refutation(
         self,
         numbers: &[u64],

@@ -15,12 +15,13 @@ use Rattle.dd_engines.specs.propagation.Following.{alive, falses, IsForced, IsTr
 use Rattle.dd_engines.specs.propagation.Analysis.{marks, Grows, AreMarked}
 use Rattle.dd_engines.proofs.Following.{forced_has}
 
--- Let p and q say which literals are false. If they agree on the literals of a clause, they leave the same literals of it. If also each
--- literal that is false by q is false by p, then q finds the same conflict or forced literal as p.
+-- Let p and q say which literals are false. If they agree on the literals of a clause, the same literals of the clause are not false by p and by q.
 filter_same : (p q : Literal → Bool) (c : List Literal) → ((x : Literal) → In c x → p x ≡ q x) → filter (λ x. not (p x)) c ≡ filter (λ x. not (q x)) c
 filter_same p q [] same = refl
 filter_same p q (y ∷ c) same = rw (same y (in_here c y), filter_same p q c (λ x i. same x (or_right _ _ i))) refl
 
+-- Let xs be the literals of a clause that are not false. If each literal that is false by q is false by p, and p finds a conflict or a forced literal
+-- in xs, then q finds the same.
 fewer_false : (p q : Literal → Bool) (xs : List Literal) (f : Finding) → ((x : Literal) → p x ≡ false → q x ≡ false) → (f ≡ Open → ⊥) → finding_of p xs ≡ f → finding_of q xs ≡ f
 fewer_false p q [] f fewer shut is = is
 fewer_false p q (y ∷ xs) f fewer shut is = go (list_all (same_literal y) xs) (p (negation y)) refl is
@@ -31,6 +32,7 @@ fewer_false p q (y ∷ xs) f fewer shut is = go (list_all (same_literal y) xs) (
     go false true e h = absurd (shut (sym h))
     go false false e h = absurd (shut (sym h))
 
+-- the two lemmas together: q finds the same conflict or forced literal in a clause as p
 same_finding : (p q : Literal → Bool) (c : List Literal) (f : Finding) → ((x : Literal) → p x ≡ false → q x ≡ false) → ((x : Literal) → In c x → p x ≡ q x) → (f ≡ Open → ⊥) → finding p c ≡ f → finding q c ≡ f
 same_finding p q c f fewer same shut is = fewer_false p q (filter (λ x. not (q x)) c) f fewer shut (subst (λ (xs : List Literal). finding_of p xs ≡ f) (filter_same p q c same) is)
 
@@ -40,6 +42,7 @@ pub record Start (entries : List Entry) (i : ℕ) (marked : List Bool) (start : 
   pub within : (x : Literal) → In start x → In (falses (take i entries)) x
   pub marked_in : (x : Literal) → In (falses (take i entries)) x → marks marked x ≡ true → In start x
 
+-- from each such start, the hints lead to a conflict
 pub record Leads (cs : List (List Literal)) (entries : List Entry) (i : ℕ) (marked : List Bool) (hints : List ℕ) : Type 0 where
   pub leads : (start : List Literal) → Start entries i marked start → is_conflict (alive cs) start hints ≡ true
 
@@ -56,7 +59,7 @@ from_start entries i marked start c f s m shut is = same_finding (is_among (fals
       | inr n ↦ n ∙ sym (fewer x n)
     ]
 
--- the clause with a number, counted from 1
+-- the clause at place k, counted from 0, has the number k + 1
 clause_at : (cs : List (List Literal)) (k : ℕ) → k < length cs → clause_of (alive cs) (k + 1) ≡ Some (get_or cs k [])
 clause_at cs k lt = rw (add-one k) (at cs k lt)
   where
@@ -65,7 +68,7 @@ clause_at cs k lt = rw (add-one k) (at cs k lt)
     at (c ∷ cs) zero lt = refl
     at (c ∷ cs) (suc k) lt = at cs k (omega (arith, lt))
 
--- the walk back begins at the conflict
+-- the walk back begins with a single hint, the number of the conflict
 pub leads_conflict : (cs : List (List Literal)) (entries : List Entry) (marked : List Bool) (k : ℕ) → IsFalsified cs entries k → AreMarked marked (get_or cs k []) → Leads cs entries (length entries) marked ((k + 1) ∷ [])
 leads_conflict cs entries marked k conflict m = record {
   leads = λ start s.
@@ -77,7 +80,7 @@ leads_conflict cs entries marked k conflict m = record {
 falses-more : (entries : List Entry) (j : ℕ) (d : Entry) (x : Literal) → j < length entries → is_among (falses (take (j + 1) entries)) x ≡ is_among (falses (take j entries) ++ negation (get_or entries j d).literal ∷ []) x
 falses-more entries j d x lt = ap (λ (es : List Entry). is_among (falses es) x) (take_more entries j d lt) ∙ ap (λ (xs : List Literal). is_among xs x) (map-append (λ (e : Entry). negation e.literal) (take j entries) (get_or entries j d ∷ []))
 
--- a literal is false after an entry exactly when it was false before the entry or is the negation of the entry's literal
+-- The next three lemmas: a literal is false after an entry exactly when it was false before the entry or is the negation of the entry's literal.
 later_from : (entries : List Entry) (j : ℕ) (d : Entry) (x : Literal) → j < length entries → In (falses (take j entries)) x → In (falses (take (j + 1) entries)) x
 later_from entries j d x lt i = falses-more entries j d x lt ∙ list_any-append (same_literal x) (falses (take j entries)) (negation (get_or entries j d).literal ∷ []) ∙ or_left _ _ i
 
@@ -144,7 +147,7 @@ entry_in_range n cs entries j d all trail lt =
     let forced : IsForced cs (take j entries) e = trail j d lt in
     forced_has (IsLiteralInRange n) (is_among (falses (take j entries))) (get_or cs e.number []) e.literal (all e.number [] forced.within) forced.forced
 
--- if `literals` was read from the clause with number k, and its variables are marked, then the variables of the clause are marked
+-- if `literals` was read from the clause at place k, and the variables of `literals` are marked, then the variables of the clause are marked
 pub marked_clause : (cs : List (List Literal)) (k : ℕ) (c literals : List Literal) (marked : List Bool) → k < length cs → c ≡ get_or cs k c → literals ≡ c → AreMarked marked literals → AreMarked marked (get_or cs k [])
 marked_clause cs k c literals marked lt is same m = subst (AreMarked marked) (same ∙ is ∙ any cs k c [] lt) m
   where

@@ -73,14 +73,14 @@ chain_push links e linked back =
     ∙ ap (λ (o : Option Link). option_map_or (λ link. link.number ∷ along (length links) (links ++ e ∷ []) link.next) o []) (get_last links e)
     ∙ ap (λ (ks : List ℕ). e.number ∷ ks) (along_push links e linked (length links) e.next back ∙ along_enough links linked (length links) e.next e.next back (omega arith))
 
--- the chain that begins with a link that was read from the list
+-- the clause numbers along a chain are that of the first link, then those along the chain that this link leads to
 pub chain_next : (links : List Link) (at : ℕ) (link : Link) → AreLinked links → slice_get links at ≡ Some link → chain_of links (at + 1) ≡ link.number ∷ chain_of links link.next
 chain_next links at link linked is =
     ap (chain_of links) (add-one at)
     ∙ ap (λ (o : Option Link). option_map_or (λ l. l.number ∷ along at links l.next) o []) is
     ∙ ap (λ (ks : List ℕ). link.number ∷ ks) (along_enough links linked at link.next link.next (linked at link is) (omega arith))
 
--- a step along a chain, at the link with number `at`, counted from 1
+-- the same for a chain given by the number of its first link, counted from 1; in addition, the next link has a smaller number
 pub chain_at : (links : List Link) (at k : ℕ) (link : Link) → AreLinked links → at ≡ k + 1 → at ≤ length links → link ≡ get_or links k link → (chain_of links at ≡ link.number ∷ chain_of links link.next) × (link.next < at)
 chain_at links at k link linked is few read =
     let there : slice_get links k ≡ Some link = slice_get-get_or links k link (omega (arith, is, few)) ∙ ap (λ (l : Link). Some l) (sym read) in

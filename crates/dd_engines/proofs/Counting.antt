@@ -22,7 +22,7 @@ at_none (x ∷ counts) (suc k) lt h = at_none counts k (omega (arith, lt)) h
 pub some_at : (counts : List ℕ) (k : ℕ) → 0 < get_or counts k 0 → is_none_at counts k ≡ false
 some_at counts k some = false_from_ne_true (is_none_at counts k) (λ t. absurd (omega (arith, some, (none_at counts k t).none)))
 
--- at the start there is a mark at each block
+-- a mark at each block, and 0 as the first block to look at, agree with any counts
 pub all_marked : (counts : List ℕ) → IsListed counts (replicate (length counts / 32 + 1) true) 0
 all_marked counts = record {
   long = length-replicate (length counts / 32 + 1) true;

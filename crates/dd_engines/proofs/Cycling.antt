@@ -169,7 +169,8 @@ as_before cnf j k period less multiple is back (suc d) =
     let next : suc (d + k) ≡ suc d + k = omega arith in
     subst (λ (m : ℕ). IsAsBefore cnf j k period m) next (next_as cnf j k period (d + k) less multiple is back (as_before cnf j k period less multiple is back d))
 
--- If no values after fewer than k flips satisfy the clauses, no values do. All later values have occurred before.
+-- Let the walk have the same values after j flips as after k flips, and let k - j be a positive multiple of a period of the flips from j on. If no
+-- values after fewer than k flips satisfy the clauses, no values do: all later values have occurred before.
 none_after : (cnf : ClauseList) (j k period : ℕ) → j < k → (k - j) % period ≡ 0 → IsPeriod cnf j k period → values_after cnf j ≡ values_after cnf k → NoneBefore cnf k → (n : ℕ) → NoneBefore cnf n
 none_after cnf j k period less multiple is back none n m values lt reached satisfying = elim (cases_lt m k) [
   | inl before ↦ none m values before reached satisfying
@@ -184,7 +185,7 @@ pub kept_reached : (cnf : ClauseList) (old new : Landmark) (values : List Bool) 
 kept_reached cnf old new values k (inl same) old_reached reached = ap (values_after cnf) same.1 ∙ old_reached ∙ ap (λ (v : List Bool). Some v) (sym same.0)
 kept_reached cnf old new values k (inr now) old_reached reached = ap (values_after cnf) now.1 ∙ reached ∙ ap (λ (v : List Bool). Some v) (sym now.0)
 
--- A walk that is back in an earlier state goes round in a cycle. If no values up to then satisfy the clauses, none ever do.
+-- A walk that is back, in the sense of `IsBack`, goes round in a cycle. If no earlier values satisfy the clauses, none ever do.
 pub none_ever : (cnf : ClauseList) (landmark : Landmark) (values : List Bool) (period : Option ℕ) (k : ℕ) → IfSome period (IsPeriod cnf landmark.flips k) → IsBack landmark period k → IsCounted landmark values
     → values_after cnf landmark.flips ≡ Some landmark.values.items → values_after cnf k ≡ Some values → NoneBefore cnf k → (n : ℕ) → NoneBefore cnf n
 none_ever cnf landmark values None k periods back counted kept reached none = absurd back.is_multiple

@@ -118,7 +118,7 @@ among_more entries e x = ap (λ (xs : List Literal). is_among xs x) (map-append 
 entry : Literal → ℕ → Entry
 entry l k = record { literal = l; number = k }
 
--- a clause forces a literal, so one more entry and value follow
+-- if a clause forces a literal, one more entry and value follow
 pub follows_more : (cs : List (List Literal)) (entries : List Entry) (values : List (Option Bool)) (k : ℕ) (l : Literal) → Follows cs entries values → k < length cs → All (IsLiteralInRange (length values)) (get_or cs k []) → finding (is_false_by values) (get_or cs k []) ≡ Forced l
     → FollowsMore cs values (entries ++ record { literal = l; number = k } ∷ []) (set values (l.variable - 1) (Some l.positive))
 unfolding entry
@@ -161,7 +161,8 @@ follows_from_nothing cs n = record {
   trail = λ k d h. absurd (omega (arith, h));
 }
 
--- if each literal that is false by f is false by g, leaving out those false by f first does not change which literals g leaves
+-- Let each literal that is false by f be false by g. Of a clause, the same literals are left whether those false by f and then those false by g are
+-- taken out, or only those false by g.
 filter_again : (f g : Literal → Bool) → ((l : Literal) → f l ≡ true → g l ≡ true) → (c : List Literal) → filter (λ x. not (g x)) (filter (λ x. not (f x)) c) ≡ filter (λ x. not (g x)) c
 filter_again f g below [] = refl
 filter_again f g below (x ∷ xs) = elim (cases_Bool (f x)) [
@@ -184,7 +185,7 @@ same_left g y (x ∷ rest) all =
       | inr n ↦ rw n (and_from (same_literal y x) _ p.0 (same_left g y rest p.1))
     ]
 
--- f, the test with fewer false literals, finds a forced literal, and this literal is true by g
+-- f and g say which literals are false: by f, the list xs forces a literal, and by g, this literal is true
 record MadeTrue (f g : Literal → Bool) (xs : List Literal) : Type 0 where
   literal : Literal
   forced : finding_of f xs ≡ Forced literal

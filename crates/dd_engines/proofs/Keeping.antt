@@ -42,20 +42,20 @@ asked_since old new once = record {
 since_later : (a b c : Seen) → Later a b → AskedSince b c → AskedSince a c
 since_later a b c p q = record { later = later_later a b c p q.later; asked = omega (arith, p.asked, q.asked) }
 
--- if the first engine was asked, the engines are kept
+-- if `FirstAsked` holds, the engines are kept
 pub kept_from_first : (before after : List Seen) → FirstAsked before after → Kept before after
 kept_from_first _ _ nobody = none_left
 kept_from_first _ _ (first {old = old} {new = new} {before = before} {after = after} since kept) = stayed old new before after since.later kept
 kept_from_first _ _ (went {old = old} {before = before} {after = after} unsound asked) = let_go old before after unsound (kept_from_first before after asked)
 
--- if the first engine was asked in the last part of a span of time, it was asked in this span
+-- if the engines are kept from a to b, and `FirstAsked` holds from b to c, it holds from a to c
 pub first_after : (a b c : List Seen) → Kept a b → FirstAsked b c → FirstAsked a c
 first_after _ _ _ none_left nobody = nobody
 first_after _ _ _ (stayed old mid before middle p ps) (first {new = new} {after = after} q qs) = first (since_later old mid new p q) (kept_kept before middle after ps qs)
 first_after _ _ c (stayed old mid before middle p ps) (went unsound q) = went (sym p.same ∙ unsound) (first_after before middle c ps q)
 first_after _ b c (let_go old before _ unsound ps) q = went unsound (first_after before b c ps q)
 
--- a sound engine that was first is not dropped: it is still first, and was asked in the meantime
+-- if `FirstAsked` holds, a sound engine that was first is not dropped: it is still first, and was asked in the meantime
 pub head_asked : (old : Seen) (before after : List Seen) → old.sound ≡ true → FirstAsked (old ∷ before) after → IsHeadAsked old after
 head_asked old before _ sound (first since kept) = since
 head_asked old before _ sound (went unsound asked) = absurd (cc (sound, unsound))

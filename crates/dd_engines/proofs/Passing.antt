@@ -6,7 +6,7 @@ use Rattle.dd_clause.specs.declared.clause.Literal.{Literal}
 use Rattle.dd_engines.specs.declared.analysis.Entry.{Entry}
 use Rattle.dd_engines.specs.propagation.Following.{FollowsMore, IsSettled, unknowns}
 
--- If nothing has changed, each clause looked at so far is settled. Otherwise fewer variables than before have no value.
+-- If nothing has changed, each clause looked at so far is settled. Otherwise there are fewer variables without a value than before.
 pub record PassedSoFar (clauses : List (List Literal)) (values now : List (Option Bool)) (count : ℕ) (is_settled : Bool) : Type 0 where
   pub settled : is_settled ≡ true → (now ≡ values) × All (IsSettled values) (take count clauses)
   pub more : is_settled ≡ false → unknowns now < unknowns values

@@ -60,7 +60,8 @@ same_later cnf j k same (suc d) =
     let b : suc (k + d) ≡ k + suc d = omega arith in
     subst (λ (n : ℕ). IsSameState cnf n (k + suc d)) a (subst (λ (n : ℕ). IsSameState cnf (suc (j + d)) n) b (next_state cnf (j + d) (k + d) (same_later cnf j k same d)))
 
--- If no values after fewer than k flips satisfy the clauses, no values do. All later values are also reached after fewer flips.
+-- Let the walk be in the same state after j flips as after k flips, where j < k. If no values after fewer than k flips satisfy the clauses, no values
+-- do: all later values are also reached after fewer flips.
 pub none_later : (cnf : ClauseList) (j k : ℕ) → j < k → IsSameState cnf j k → NoneBefore cnf k → (n : ℕ) → NoneBefore cnf n
 none_later cnf j k less same none zero m values lt reached satisfying = absurd (omega (arith, lt))
 none_later cnf j k less same none (suc n) m values lt reached satisfying = elim (cases_lt m k) [

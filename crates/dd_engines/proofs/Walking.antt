@@ -1,4 +1,4 @@
--- The steps of a walk.
+-- The flips of a walk.
 use Rattle.std.proofs.Common.{◌≡◌, ℕ, zero, suc, ◌+◌, ◌-◌, ◌*◌, ◌%◌, ◌<◌, ◌≤◌, Bool, true, false, cond, eqb, List, [], ◌∷◌, Some, refl, sym, ◌∙◌, ap, subst, inl, inr, length, get_or, map, arith, add-one}
 use Rattle.std.proofs.{Math.ListN.set, lemmas.Bool.cases_Bool, lemmas.Bool.cases_lt, lemmas.Bool.false≢true}
 use Rattle.std.proofs.lemmas.List.{length-map, length-set, Sums.sum_by-cons}
@@ -51,7 +51,7 @@ flip_walks clauses values counts new_counts marks new_marks start new_start chai
       are_listed = are_listed;
     }
 
--- the state of a walk stays right if the counts are the same and only the marks change
+-- what is kept of a walk stays right if the counts are the same and the new marks agree with them
 pub looked_walks : (clauses : List (List Literal)) (values : List Bool) (counts new_counts : List ℕ) (marks new_marks : List Bool) (start new_start : ℕ) → Walks clauses values counts marks start
     → new_counts ≡ counts → IsListed new_counts new_marks new_start → Walks clauses values new_counts new_marks new_start
 looked_walks clauses values counts new_counts marks new_marks start new_start walks same are_listed = record {
@@ -83,7 +83,7 @@ read_default [] k x d lt is = absurd (omega (arith, lt))
 read_default (y ∷ xs) zero x d lt is = is
 read_default (y ∷ xs) (suc k) x d lt is = read_default xs k x d (omega (arith, lt)) is
 
--- the clause that a walk finds: the first without a true literal
+-- the clause that the next flip takes: the first without a true literal
 pub record FoundClause (clauses : List (List Literal)) (values : List Bool) (clause : List Literal) : Type 0 where
   pub first : first_unsatisfied values clauses ≡ Some clause
   pub range : IsClauseInRange (length values) clause
@@ -143,7 +143,7 @@ first_at cnf values counts marks start k flips walks long none few reached befor
   none_before = before;
 }
 
--- if some clause has no true literal at the end of the walk, no values on the walk satisfy the clauses
+-- if no earlier values satisfy the clauses, and some clause has no true literal at the end of the walk, no values on the walk satisfy the clauses
 pub none_at_end : (cnf : ClauseList) (values : List Bool) (counts : List ℕ) (marks : List Bool) (start : ℕ) (k place : ℕ) → Walks cnf.clauses values counts marks start → IsFirstNone counts place → values_after cnf k ≡ Some values → NoneBefore cnf k → NoneBefore cnf (k + 1)
 none_at_end cnf values counts marks start k place walks none reached before =
     let clause = get_or cnf.clauses place [] in

@@ -7,7 +7,8 @@ use Rattle.dd_engines.specs.Walks.{values_after}
 abbrev pub PickAlike : List (List Literal) → ℕ → ℕ → Type 0
 PickAlike clauses j k = All (λ clause. 0 < length clause → j % length clause ≡ k % length clause) clauses
 
--- The walk is in the same state after j flips as after k flips: it has the same values, and is about to pick the same literals.
+-- The walk is in the same state after j flips as after k flips: it has the same values, or none both times, and would pick the same literal from each
+-- clause.
 pub record IsSameState (cnf : ClauseList) (j k : ℕ) : Type 0 where
   pub values : values_after cnf j ≡ values_after cnf k
   pub picks : PickAlike cnf.clauses j k

@@ -47,7 +47,7 @@ pub data Kept : List Seen → List Seen → Type 0 where
   stayed : (old new : Seen) (before after : List Seen) → Later old new → Kept before after → Kept (old ∷ before) (new ∷ after)
   let_go : (old : Seen) (before after : List Seen) → old.sound ≡ false → Kept before after → Kept (old ∷ before) after
 
--- the same engine at a later time, asked in the meantime
+-- the same engine at a later time, asked in the meantime: the count of how often it was asked rose, or is at its maximum
 pub record AskedSince (old new : Seen) : Type 0 where
   pub later : Later old new
   pub asked : Rose old.asked new.asked

@@ -24,8 +24,8 @@ made_true values l = slice_set values (l.variable - 1) l.positive
 abbrev pub flipped : ℕ → List Bool → List Literal → Option (List Bool)
 flipped k values clause = option_map (made_true values) (slice_get clause (k % length clause))
 
--- The values after k flips, starting with all variables false. There are none if each clause has a true literal before one of
--- these flips, or if one of these flips takes an empty clause.
+-- The values after k flips, starting with all variables false. There are none if the walk ends before it has made k flips: it ends when each clause
+-- has a true literal, or when a flip takes an empty clause.
 abbrev pub values_after : ClauseList → ℕ → Option (List Bool)
 values_after cnf zero = Some (replicate cnf.variables false)
 values_after cnf (suc k) = option_and_then (λ values. option_and_then (flipped k values) (first_unsatisfied values cnf.clauses)) (values_after cnf k)

@@ -1,7 +1,7 @@
 //! The clauses that a conflict needs. A conflict is a clause whose literals are all false. The trail lists, in order, the
 //! literals that became true by unit propagation. The needed clauses are found by going back over the trail (Marques-Silva and
-//! Sakallah 1999). The clause of the conflict needs the values of its variables. Each clause that forced a needed value needs,
-//! in turn, the values of its own variables.
+//! Sakallah 1999). The conflict needs the values of its variables. Each clause that forced a needed value is needed too, and so
+//! are the values of its other variables.
 ghost use Rattle.std.specs.Prelude.{◌≡◌, All, length, IfOk};
 ghost use Rattle.dd_clause.specs.Clauses.{IsClauseInRange};
 ghost use Rattle.dd_engines.specs.propagation.Following.{IsTrail, IsFalsified, Ends};
@@ -28,8 +28,8 @@ fn mark(marked: &mut [bool], literals: &[Literal])
     }
 }
 
-/// Goes back over the entries from the conflict, and marks the variables whose values the conflict needs. Returns the hints: the
-/// numbers of the needed clauses, counted from 1, as in a step.
+/// Goes over the entries, from the last to the first, and marks the variables whose values the conflict needs. `conflict` is
+/// the conflict's number, counted from 0. Returns the hints: the numbers of the needed clauses, counted from 1, as in a step.
 fn walk_back(
     alloc: Global,
     clauses: &[Clause],
@@ -56,8 +56,9 @@ fn walk_back(
     Ok(hints)
 }
 
-/// Returns the hints of a step that refutes the clauses, in the order of the trail. The last hint is the clause of the conflict.
-/// Each of the others forces a value that a later one needs.
+/// Returns the hints of a step that refutes the clauses, in the order of the trail. The last hint is the number of the
+/// conflict. Each other hint is the number of a clause that forces a value, and a later hint's clause needs this value.
+/// `conflict` is the conflict's number, counted from 0, but hints are counted from 1.
 pub fn needed_hints(
     alloc: Global,
     clauses: &[Clause],

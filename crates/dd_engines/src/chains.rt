@@ -30,7 +30,8 @@ pub struct Chains {
     pub links: Vec<Link>,
 }
 
-/// The place of a literal in a list of all literals, which has two for each variable.
+/// The place of a literal, counted from 0, in a list of all literals. The list has, for each variable in turn, first the
+/// negation of the variable and then the variable itself.
 fn place_of(literal: Literal) -> usize
     ensures { result ≡ spec.place_of literal }
 {
@@ -47,7 +48,7 @@ impl Chains {
         }
     }
 
-    /// Replaces the chains with those of a clause list, and reuses their memory.
+    /// Replaces the chains with those of a clause list. The memory of the old chains is reused.
     fn list(&mut self, cnf: &Cnf) -> Result<(), AllocError>
         ensures { OnOk result (IsListingOf self.new cnf.now.variables cnf.now.clauses) }
     {
@@ -75,7 +76,7 @@ impl Chains {
         Ok(())
     }
 
-    /// Adds the clause with this number to the chain of one literal.
+    /// Adds the clause with this number to the chain of one literal, in front of the clauses that are there.
     fn add_one(&mut self, number: usize, literal: Literal) -> Result<(), AllocError>
         requires place { HasChain self.old literal }
         requires linked { IsLinked self.old }
@@ -118,7 +119,7 @@ impl Chains {
     }
 }
 
-/// The chains of a clause list. They reuse the memory of the chains in `room`, if there are any.
+/// The chains of a clause list. If there are chains in `room`, they are taken out of it, and their memory is reused.
 pub fn listed(alloc: Global, room: &mut Option<Chains>, cnf: &Cnf) -> Result<Chains, AllocError>
     ensures { IfOk result (λ chains. IsListingOf chains cnf.now.variables cnf.now.clauses) }
 {

@@ -36,8 +36,8 @@ impl Landmark {
         })
     }
 
-    /// Updates the count of the variables in which the present assignment differs from the landmark, just before the value at
-    /// this place changes. `values` are the walk's values before the change.
+    /// Updates `differing` for a change of the value at this place, counted from 0. `values` are the walk's values before the
+    /// change.
     pub fn count(&mut self, values: &[bool], place: usize)
         requires within { place < length values.now }
         requires counted { IsCounted self.old values.now }
@@ -52,8 +52,9 @@ impl Landmark {
         }
     }
 
-    /// Whether the walk, after `k` flips, is known to be back in the state that it had at the landmark. `period` is a period of
-    /// the flips since the landmark, if one is known.
+    /// Whether the walk is found to be in a cycle after `k` flips. It is if the present values are those of the landmark, and
+    /// the number of flips since the landmark is a positive multiple of `period`. This is a period of these flips, or `None` if
+    /// none is known.
     pub fn is_back(&self, k: u32, period: Option<u32>) -> bool
         requires { IfSome period (λ t. 0 < t) }
         ensures { result ≡ true → IsBack self.now period k }
@@ -77,10 +78,10 @@ impl Landmark {
         }
     }
 
-    /// A period of the flips from the landmark up to and including flip number `k`, counted from 0. `length` is the length of
-    /// the clause that flip `k` takes. `period` is a period of the flips from the landmark up to, but not including, flip `k`,
-    /// if one is known. It isn't used if flip `k` is the first since the landmark. Returns `None` if `period` is needed but is
-    /// `None`, or if the new period is greater than `most`: a walk of `most` flips has no use for it.
+    /// A period of the flips since the landmark, up to and including flip number `k`, counted from 0. `length` is the length of
+    /// the clause that flip `k` takes. `period` is a period of these flips without flip `k`, or `None` if none is known. It
+    /// isn't used if flip `k` is the first since the landmark. Returns `None` if `period` is needed but is `None`, or if the
+    /// new period is greater than `most`: a walk of `most` flips has no use for it.
     pub fn period_with(&self, k: u32, period: Option<u32>, length: usize, most: u32) -> Option<u32>
         requires { IfSome period (λ t. 0 < t) }
         ensures { IfSome result (IsPeriodWith self.now.flips k period length) }

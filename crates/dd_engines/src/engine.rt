@@ -32,7 +32,8 @@ pub trait Engine: Drop {
     /// Whether each of its proposals is right.
     ghost sound: { Self → Bool };
 
-    /// Proposes something about the clauses, or nothing. If memory runs out, the call fails, and nothing is proposed.
+    /// Proposes something about the clauses, or nothing. If memory runs out, the call fails. Then nothing is proposed, but the
+    /// engine counts as asked.
     fn propose(&mut self, alloc: Global, cnf: &Cnf) -> Result<Proposal, AllocError>
         ensures asked { RisesByOne (asked self.old) (asked self.new) }
         ensures given { IfOk result (GivenAfter (given self.old) (given self.new)) }

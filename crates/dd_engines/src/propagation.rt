@@ -1,14 +1,14 @@
-//! Unit propagation from no assumptions. If all literals of a clause but one are false, the clause makes the remaining one true.
-//! Propagation ends with a conflict, which is a clause whose literals are all false, or when a pass over all clauses changes
-//! nothing.
+//! Unit propagation from no assumptions. If all literals of a clause but one are false, the clause forces the remaining one to
+//! be true. A conflict is a clause whose literals are all false. Propagation ends at a conflict, or when a pass over all
+//! clauses changes nothing.
 //!
 //! Each clause has a count of its literals that are not false. When a literal becomes false, the counts of the clauses that
-//! contain it fall by one, and each clause whose count falls to one is looked at next. So the second pass finds nothing new, and
+//! contain it fall by one, and each clause whose count falls to one is looked at next. So a second pass finds nothing new, and
 //! the whole takes linear time.
 //!
 //! Before this, a few passes without counts are made, in both directions. They usually find all that follows, and counts cost
 //! much more. In a clause list that is made from gates, the clauses of a gate come before the clauses that use the gate. So a
-//! pass from the last clause to the first goes from the uses of a gate to the gate.
+//! single pass back, from the last clause to the first, can carry a value from the last gates to the first ones.
 ghost use Rattle.std.specs.Prelude.{◌≡◌, [], List, All, true, length, IfOk, MatchOption};
 ghost use Rattle.dd_clause.specs.Clauses.{IsClauseInRange};
 ghost use Rattle.dd_clause.specs.declared.clause.Literal.{Literal};
@@ -22,7 +22,7 @@ use dd_derivation::{FalseLiterals, Finding, Step, find};
 use dd_values::Items;
 use std::alloc::{AllocError, Global};
 
-/// The greatest number of rounds without counts. A round is a pass back and a pass forward.
+/// How many times, at most, a pass back and a pass forward are made without counts.
 const FEW: usize = 2;
 
 /// What has followed so far: the values of the variables that have one, and the literals that became true, in order.
@@ -59,9 +59,9 @@ impl Trail {
         })
     }
 
-    /// Looks at a clause, and adds the literal that it forces to be true, if there is one. Returns what the look finds: the
-    /// clause forces a literal, all its literals are false, or it is open, which means neither. Returns `Open` if no clause has
-    /// this number.
+    /// Looks at the clause with this number, counted from 0. If it forces a literal, adds the literal to the trail. Returns
+    /// what the look finds: the clause forces a literal, all its literals are false, or it is open, which means neither.
+    /// Returns `Open` if no clause has this number.
     fn look(&mut self, clauses: &[Clause], number: usize) -> Result<Finding, AllocError>
         requires in_range { All (IsClauseInRange (length self.old.values.items)) clauses.now }
         requires follows { Follows clauses.now self.old.entries.items self.old.values.items }
@@ -100,7 +100,7 @@ struct Counts<'a> {
     chains: &'a Chains,
     /// For each clause, how many of its literals are not false. A repeated literal counts once.
     left: Vec<usize>,
-    /// The numbers, counted from 0, of the clauses that have one literal left and wait to be looked at.
+    /// The numbers, counted from 0, of the clauses whose counts fell to one and that wait to be looked at.
     waiting: Vec<usize>,
 }
 
@@ -118,7 +118,7 @@ impl<'a> Counts<'a> {
     fn new(alloc: Global, cnf: &Cnf, chains: &'a Chains) -> Result<Counts<'a>, AllocError> {
         let mut left = vec![in alloc; 0usize; cnf.clauses().len()]?;
         for link in chains.links.as_slice() {
-            // The number is that of a clause, so there is a count for it.
+            // The link's number is that of a clause, so there is a count for it.
             if !chains.is_repeated(*link)
                 && let Some(count) = left.get_mut(link.number)
             {
@@ -145,7 +145,7 @@ impl<'a> Counts<'a> {
             if self.chains.is_repeated(link) {
                 continue;
             }
-            // The number is that of a clause, so there is a count for it.
+            // The link's number is that of a clause, so there is a count for it.
             let Some(count) = self.left.get_mut(link.number) else {
                 continue;
             };
@@ -158,8 +158,8 @@ impl<'a> Counts<'a> {
     }
 }
 
-/// Looks at a clause. If it forces a literal, looks at the clauses that then wait, one after the other. Each clause waits at
-/// most once.
+/// Looks at the clause with this number, counted from 0. If it forces a literal, looks at the clauses that then wait, one after
+/// the other. Each clause waits at most once, so one turn of the loop for each clause is enough. Stops at a conflict.
 fn follow(
     counts: &mut Counts,
     trail: &mut Trail,
@@ -189,7 +189,7 @@ fn follow(
     Ok(Progress::More)
 }
 
-/// Looks at each clause, and follows up each new literal.
+/// Calls `follow` for each clause, from the first to the last. Stops at a conflict.
 fn pass(counts: &mut Counts, trail: &mut Trail, clauses: &[Clause]) -> Result<Progress, AllocError>
     requires in_range { All (IsClauseInRange (length trail.old.values.items)) clauses.now }
     requires follows { Follows clauses.now trail.old.entries.items trail.old.values.items }
@@ -229,8 +229,8 @@ fn pass_back(trail: &mut Trail, clauses: &[Clause]) -> Result<Option<usize>, All
     Ok(None)
 }
 
-/// Makes a pass back and then at most `FEW` rounds, all without counts. Stops at a conflict, or if a pass forward changes
-/// nothing.
+/// Makes a pass back. Then makes, at most `FEW` times, a pass back and a pass forward. All these passes are without counts.
+/// Stops at a conflict, or when a pass forward changes nothing.
 fn few_passes(alloc: Global, trail: &mut Trail, clauses: &[Clause]) -> Result<Progress, AllocError>
     requires in_range { All (IsClauseInRange (length trail.old.values.items)) clauses.now }
     requires follows { Follows clauses.now trail.old.entries.items trail.old.values.items }
@@ -255,8 +255,8 @@ fn few_passes(alloc: Global, trail: &mut Trail, clauses: &[Clause]) -> Result<Pr
     Ok(Progress::More)
 }
 
-/// Makes passes with counts until nothing changes. Returns the number of a clause whose literals are all false, or `None` if
-/// there is no such clause. `chains` are the chains of these clauses.
+/// Makes passes with counts until one meets a conflict or changes nothing. Returns the number of a clause whose literals are
+/// all false, or `None` if there is no such clause. `chains` are the chains of the clauses of `cnf`.
 fn all_passes(
     alloc: Global,
     cnf: &Cnf,

@@ -13,8 +13,8 @@ use dd_clause::Cnf;
 use dd_values::Items;
 use std::alloc::{AllocError, Global};
 
-/// Proposes a refutation by a single step exactly when there is one, that is, if unit propagation from no assumptions ends in a
-/// conflict. Otherwise it proposes nothing.
+/// Proposes a refutation by a single step exactly when there is one, that is, when unit propagation from no assumptions ends in
+/// a conflict. Otherwise it proposes nothing.
 #[derive(Drop)]
 pub struct Propagator {
     tally: Tally,

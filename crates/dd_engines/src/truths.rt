@@ -88,7 +88,7 @@ impl Truths {
         None
     }
 
-    /// Raises the counts of the clauses that contain this literal, which becomes true.
+    /// Raises the count of each clause by one for each time that the clause contains this literal, which becomes true.
     pub fn raise(&mut self, chains: &Chains, literal: Literal)
         requires linked { IsLinked chains.now }
         requires chain { HasChain chains.now literal }
@@ -105,7 +105,7 @@ impl Truths {
         }
     }
 
-    /// Lowers the counts of the clauses that contain this literal, which becomes false.
+    /// Lowers the count of each clause by one for each time that the clause contains this literal, which becomes false.
     pub fn lower(&mut self, chains: &Chains, literal: Literal)
         requires linked { IsLinked chains.now }
         requires chain { HasChain chains.now literal }

@@ -17,8 +17,8 @@ use crate::truths::Truths;
 use dd_clause::{Assignment, Clause, Cnf, Literal};
 use std::alloc::{AllocError, Global};
 
-/// The state of the walk: the values of the variables, how many literals of each clause they make true, and an earlier
-/// assignment, by which a cycle is noticed.
+/// A walk under way: the values of the variables, how many literals of each clause they make true, and an earlier assignment,
+/// by which a cycle is noticed.
 #[derive(Drop)]
 struct Walk {
     values: Vec<bool>,
@@ -99,7 +99,7 @@ pub fn first_found(
 {
     let clauses = cnf.clauses();
     let mut walk = Walk::new(alloc, cnf)?;
-    // No clause was taken yet, so 1 is a period in the sense of the module `cycle`.
+    // No clause has been taken yet, so 1 is a period in the sense of the module `cycle`.
     let mut period = Some(1);
     for k in 0..flips {
         let Some(number) = walk.first(clauses) else {

@@ -1,4 +1,5 @@
--- There is only one list of the patterns that a rule forbids, and an output can hold it.
+-- There is only one list of the patterns that a rule forbids, and an output can hold it. Its patterns at a node are exactly the fillings that break
+-- the rule there.
 use Rattle.std.proofs.Common.{◌≡◌, ℕ, zero, suc, ◌*◌, ◌^◌, ◌≤◌, ◌<◌, inl, inr, List, [], ◌∷◌, ◌++◌, map, length, ap, sym, subst, arith}
 use Rattle.std.proofs.lemmas.List.Elements.{All-weaker, All-contains_itself, Contains-append_left, Contains-append_right, Contains-append_cases}
 use Rattle.std.proofs.lemmas.Bool.{cases_lt}

@@ -11,7 +11,7 @@ use Rattle.dd_certificate.specs.Bounds.{IsWritable, IsWritableSigned}
 use Rattle.dd_evidence.specs.Cells.{written_cell, IsOutside}
 use Rattle.dd_certificate.specs.declared.answer.Answer.TheVariants as answer
 
--- an output can hold a coordinate of a cell in the fundamental box
+-- an output can hold a residue modulo n, where n is from 1 to 65,536; each coordinate of a cell in the fundamental box is such a residue
 coordinate_fits : (z w : ℤ) (n : ℕ) → 0 < n → n ≤ 65536 → pos (residue w n) ≡ z → IsWritableSigned z
 coordinate_fits z w n some few is =
     let below : residue w n < n = residue_below w n some in

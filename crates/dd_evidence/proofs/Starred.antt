@@ -1,4 +1,5 @@
--- There is only one list that `IsStarredList` accepts. In it, the patterns of a node are the node's minimal list. An output can hold the list.
+-- There is only one list that `IsStarredList` accepts. Each of its patterns belongs to a node of the rule, and the patterns of a node are the node's
+-- minimal list. An output can hold the list.
 use Rattle.std.proofs.Common.{◌≡◌, ℕ, zero, suc, ◌*◌, ◌≤◌, ◌<◌, inl, inr, Bool, true, false, cond, Option, Some, None, List, [], ◌∷◌, ◌++◌, map, length, nat_eq, refl, ap, sym, subst, ◌∙◌, arith}
 use Rattle.std.proofs.lemmas.List.{map-append, append-nil}
 use Rattle.std.proofs.lemmas.List.Elements.{All-nil, All-cons, All-head, All-tail, All-append, All-weaker, All-contains_itself, All-map, filter-append}
@@ -42,7 +43,8 @@ listed_short thin before (ss ∷ more) =
     either_short (is_covered before ss) (minimal.listed thin before more) (thin ss ∷ minimal.listed thin (before ++ thin ss ∷ []) more) (suc (length more))
     (omega (arith, others)) (omega (arith, later))
 
--- each pattern is a thinned filling, one without its needless cells; so what holds for all thinned fillings holds for each pattern
+-- Each listed pattern is a thinned filling: a filling from which needless cells are left out. So what holds for all thinned fillings holds for each
+-- listed pattern.
 listed_fit : (P : List (Option ℕ) → Type 0) (thin : List ℕ → List (Option ℕ)) (before : List (List (Option ℕ))) (lists : List (List ℕ)) →
     All (λ ss. P (thin ss)) lists → All P (minimal.listed thin before lists)
 listed_fit P thin before [] h = All-nil P

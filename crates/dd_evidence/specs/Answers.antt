@@ -7,7 +7,8 @@ use Rattle.dd_certificate.specs.declared.answer.{Listed.Listed, Starred.Starred,
 use Rattle.dd_evidence.specs.{Cells.IsOutside, Lists.IsForbiddenList, Lists.IsStarredList}
 use Rattle.dd_certificate.specs.declared.answer.Answer.TheVariants as answer
 
--- the answer says that the configuration lives in the rule's subshift, or it gives the first cell at which the rule is false
+-- the answer says that the configuration lives in the rule's subshift, or it gives the first cell of the fundamental box (the box that repeats) at
+-- which the rule is false
 pub data IsMemberCertificate (x : LocalRule) (t : Tile) : Answer → Type 0 where
   member_inside : Lives x t → IsMemberCertificate x t answer.Inside
   member_outside : {place : List ℤ} → IsOutside x t place → IsMemberCertificate x t (answer.Outside place)

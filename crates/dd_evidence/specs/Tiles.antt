@@ -1,9 +1,10 @@
--- Periodic configurations, as answers write them. A tile is such a configuration: its periods, and the symbols of the box that repeats.
+-- Periodic configurations, as answers write them. A tile is such a configuration: its periods, its shear, and the symbols of the box that repeats.
+-- The shear is how far the second period vector goes along the first axis.
 use Rattle.std.specs.Prelude.{ℕ, ◌≡◌, List, [], ◌∷◌, length, take, slice_index_or}
 use Rattle.dd_pattern.specs.{declared.periods.Periods.Periods, Tile.Tile, Tile.tile}
 use Rattle.dd_formula.specs.LocalRule.{LocalRule}
 
--- the periods that are read back from an answer: 1 along each axis for which it writes no period
+-- The periods that are read back from an answer. Along each axis for which the answer writes no period, the period is 1.
 abbrev pub given_periods : List ℕ → ℕ → Periods
 given_periods along shear =
     record { x = slice_index_or along 0 1; y = slice_index_or along 1 1; z = slice_index_or along 2 1; shear = shear }

@@ -68,8 +68,12 @@ fn push_starred(
     Ok(())
 }
 
-/// Minimal patterns that a rule forbids, node by node. No further cell can be left out of any of them. Together they forbid
-/// exactly what the rule forbids. The list need not have all minimal patterns.
+/// The minimal lists of a rule, node by node. No further cell can be left out of any of their patterns. At each node, the
+/// patterns together forbid exactly what the rule forbids there. A list need not have all minimal patterns. At each node the
+/// cells that the rule reads must have at most 65,536 fillings.
+///
+/// # Errors
+/// `AllocError` if memory ran out.
 pub fn minimal_patterns(alloc: Global, rule: &Rule) -> Result<Items<Starred>, AllocError>
     requires { HasFewPatterns rule.now }
     ensures { IfOk result (IsStarredList rule.now) }

@@ -1,4 +1,4 @@
--- The number of instances of an atom that compares the symbols of two cells.
+-- How many instances the expansion has that says that two cells have the same symbol.
 use Rattle.std.proofs.Common.{◌≡◌, ℕ, zero, suc, ◌+◌, ◌*◌, [], ◌∷◌, map, refl, ap, ◌∙◌, arith, subst}
 use Rattle.std.proofs.lemmas.List.FromFn.{sum_by-map-range_with_len_more}
 use Rattle.std.specs.List.{sum_by, range_with_len}

@@ -1,4 +1,5 @@
--- How far moves and balls reach.
+-- How far moves and balls reach, if all edges are short. An edge is short if it leads at most 4 along each axis. The extent of a position or an
+-- offset is the greatest absolute value of its coordinates.
 use Rattle.std.proofs.Common.{◌≡◌, ℕ, zero, suc, ◌+◌, ◌*◌, ◌≤◌, Bool, true, false, List, [], ◌∷◌, Option, Some, None, ℤ, pos, negsuc, ◌≤ℤ◌, arith, refl, ap, sym, inl, inr, unsigned_abs, subst}
 use Rattle.std.proofs.lemmas.{Int.ints, Bool.and_parts, Bool.and_from, Bool.leb-true}
 use Rattle.std.specs.{Prelude.nat_le, Prelude.cond, Prelude.IfSome, Prelude.if◌then◌else◌, List.find, List.list_all}
@@ -56,7 +57,7 @@ stays : (r : Option Cell) (n : ℕ) → IfSome r (λ to. extent to.position ≤ 
 stays None n near small = refl
 stays (Some to) n near small = ap (λ b. if b then Some to else None) (within_range to.position (omega (arith, near)))
 
--- a move from a cell that is near leads to a cell in range
+-- a move from a cell whose extent is at most 2^20 - 4 leads to a cell in range
 pub step_stays : (es : List Edge) (c : Cell) (label : ℕ) → are_short 4 es ≡ true → extent c.position + 4 ≤ 1048576 → option_and_then in_range (step es c label) ≡ step es c label
 step_stays es c label short small = stays (step es c label) (extent c.position + 4) (step_near es c label short) small
 
@@ -81,7 +82,7 @@ pub ball_near : (es : List Edge) (c : Cell) (r : ℕ) (cells : List Cell) → ar
 ball_near es c r cells short list =
     All-from_contains (λ d. extent d.position ≤ extent c.position + 4 * r) cells (λ d there. in_ball_near es c r d short ((list.members d).0 there))
 
--- a ball round a cell that is near does not leave the range
+-- if the extent of the centre plus four times the radius is at most 2^20, the ball does not leave the range
 pub ball_stays : (es : List Edge) (c : Cell) (r : ℕ) → are_short 4 es ≡ true → extent c.position + 4 * r ≤ 1048576 → CellsLeaveRange (IsInBall es c r) → ⊥
 ball_stays es c r short small leaves =
     leaves.outside (in_range_from_test leaves.at.position (within_range leaves.at.position (omega (arith, in_ball_near es c r leaves.at short leaves.member))))

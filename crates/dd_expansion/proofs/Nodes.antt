@@ -67,7 +67,8 @@ module _ (es : List Edge) (n : ℕ) (env : List Cell) where
   pub nodes_iff : (f g : Formula) → instances (expansion es n (formula.Iff f g) env) ≡ 1 + (instances (expansion es n f env) + instances (expansion es n g env))
   nodes_iff f g = ap instances (expansion_iff f g) ∙ fold-roll-Expanded ℕ instances_step (Expanded-F.Iff (expansion es n f env) (expansion es n g env))
 
--- a disjunction fits exactly when the conjunction of the same parts does, and it is as deep; likewise for the two quantifiers
+-- `formula_fits` gives a disjunction the same value as the conjunction of the same parts, and an existential formula the same value as the universal
+-- one with the same balls and body. The lemmas after this module say the same of their depths.
 module _ (g : Grid) (n : ℕ) where
   pub fits_or_alike : (fs : List Formula) (scope : ℕ) → formula_fits g n (formula.Or fs) scope ≡ formula_fits g n (formula.And fs) scope
   fits_or_alike fs scope = fits_or g n fs scope ∙ sym (fits_and g n fs scope)

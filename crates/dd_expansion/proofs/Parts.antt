@@ -1,4 +1,5 @@
--- What holds of the parts of a formula, and how the budget pays for them.
+-- What holds of the parts of a formula, and how the budget pays for them. A formula fits if `formula_fits` holds of it. The cells of n variables are
+-- near if none of their coordinates exceeds 12n in absolute value.
 use Rattle.std.proofs.Common.{◌≡◌, ℕ, ◌+◌, ◌*◌, ◌<◌, ◌≤◌, Bool, true, List, [], ◌∷◌, ◌++◌, length, map, take, get_or, Result, Ok, Err, ap, sym, ◌∙◌, subst, arith}
 use Rattle.std.proofs.lemmas.{Bool.and_parts, List.take_more, List.map-append, List.length-append}
 use Rattle.std.proofs.lemmas.List.Sums.{sum_by_more, sum_by_more_le}
@@ -63,23 +64,24 @@ inner_depth body f env inner c h same is = omega (arith, h, ap depth same, longe
 pub inner_near : (env inner : List Cell) (c : Cell) → AreNear (12 * length env) env → extent c.position ≤ 12 * (length env + 1) → inner ≡ env ++ c ∷ [] → AreNear (12 * length inner) inner
 inner_near env inner c near here is = subst (λ l. AreNear (12 * length l) l) (sym is) (near_push env c near here)
 
--- each cell of a list of near cells is near
+-- if no coordinate of the listed cells exceeds n in absolute value, this holds of each of the cells
 pub item_near : (n : ℕ) (cells : List Cell) (i : ℕ) (c : Cell) → AreNear n cells → i < length cells → c ≡ get_or cells i c → extent c.position ≤ n
 item_near n cells i c near within is = let here = near i c within in omega (arith, here, ap (λ d. extent d.position) is)
 
--- the list of the values made so far, with one more value
+-- if a list has the values at the first i items, and the value at the next item is appended, it has the values at the first i + 1 items
 pub made_more : {X Y : Type 0} (f : X → Y) (xs : List X) (i : ℕ) (x : X) (made now : List Y) (y : Y) → i < length xs → x ≡ get_or xs i x → made ≡ map f (take i xs) → y ≡ f x → now ≡ made ++ y ∷ [] →
     now ≡ map f (take (i + 1) xs)
 made_more f xs i x made now y within is before one joins =
     joins ∙ (ap (λ l. l ++ y ∷ []) before ∙ (ap (λ z. map f (take i xs) ++ z ∷ []) (one ∙ ap f is) ∙ sym (map_more f xs i x within)))
 
--- the budget, which has paid for the first values, after it pays for one more
+-- if the budget has paid for the first i values, and then pays for one more, it has paid for the first i + 1
 pub paid_more : {X : Type 0} (cost : X → ℕ) (xs : List X) (i : ℕ) (x : X) (left now first : ℕ) → i < length xs → x ≡ get_or xs i x → left + sum_by cost (take i xs) ≡ first → now + cost x ≡ left →
     now + sum_by cost (take (i + 1) xs) ≡ first
 paid_more cost xs i x left now first within is before one = omega (arith, sum_by_more cost xs i x within, ap cost is, before, one)
 
 -- if what is left of the budget doesn't pay for one more value, all values together cost more than the budget was before the first of them.
--- `few_for_all`: the same, if one instance was paid before the values, for the formula that joins them
+-- `few_for_all`: suppose that one instance was paid before the values, for the conjunction or disjunction that joins them. Then the budget before
+-- this payment was less than the cost of all values plus 1
 pub few_at : {X : Type 0} (cost : X → ℕ) (xs : List X) (i : ℕ) (x : X) (left first : ℕ) → i < length xs → x ≡ get_or xs i x → left + sum_by cost (take i xs) ≡ first → left < cost x → first < sum_by cost xs
 few_at cost xs i x left first within is paid few = omega (arith, sum_by_more_le cost xs i x within, ap cost is, paid, few)
 

@@ -16,7 +16,7 @@ joined ps bs cs ds same same' d = (
   λ h. elim (Contains-append_cases bs ds d h) [ inl b ↦ Contains-append_left ps cs d ((same d).1 b) | inr e ↦ Contains-append_right ps cs d ((same' d).1 e) ],
 )
 
--- adding the cells of one more ball
+-- if a list has the cells of the first i balls, and those of the next ball are appended, it has the cells of the first i + 1 balls
 pub union_more : (es : List Edge) (env : List Cell) (bs : List BallOf) (i : ℕ) (d : BallOf) (cells next now : List Cell) → i < length bs →
     HaveSameCells cells (balls_of es env (take i bs)) → next ≡ in_order (ball_round es (get_or bs i d).radius (slice_get env (get_or bs i d).variable)) → now ≡ cells ++ next →
     HaveSameCells now (balls_of es env (take (i + 1) bs))
@@ -31,7 +31,7 @@ union_more es env bs i d cells next now within same made joins =
 pub near_more : (n : ℕ) (cells next now : List Cell) → AreNear n cells → AreNear n next → now ≡ cells ++ next → AreNear n now
 near_more n cells next now near near' joins = subst (AreNear n) (sym joins) (All-append (λ c. extent c.position ≤ n) cells next near near')
 
--- the cells of all balls, in cell order
+-- a list with the cells of all balls, once put in cell order, is the union of the balls in cell order
 pub union_ordered : (es : List Edge) (env : List Cell) (bs : List BallOf) (i : ℕ) (cells ordered : List Cell) → length bs ≤ i → HaveSameCells cells (balls_of es env (take i bs)) →
     HaveSameCells ordered cells → IsStrictlySortedBy cell_cmp ordered → ordered ≡ in_order (balls_of es env bs)
 union_ordered es env bs i cells ordered whole same members up =

@@ -7,7 +7,8 @@ use crate::expanded::Expanded;
 
 impl Expanded {
     /// The number of clauses of the gates of this expansion. Each constant has 1, each conjunction or disjunction of k
-    /// parts has k + 1, and each equivalence has 4. A leaf or a negation has none of its own.
+    /// parts has k + 1, and each equivalence has 4. A leaf or a negation has none of its own. The expansion must have at most
+    /// 2^32 instances.
     #[tactic(auto, using(crate::proofs::Sizes::clauses_few))]
     pub fn clause_count(&self) -> u64
         requires { instances self.now ≤ 2 ^ 32 }

@@ -44,7 +44,7 @@ struct Scope<'a> {
 ///
 /// # Errors
 /// `Instances` if the expansion has more than `most` instances; the work stops once they would exceed `most`. `Memory` if
-/// memory ran out.
+/// memory runs out first.
 pub fn expand(
     alloc: Global,
     topology: &Topology,
@@ -147,7 +147,7 @@ impl<'a> Scope<'a> {
         Ok(Boxed::new(self.alloc, made)?)
     }
 
-    /// The expansion of the negation of `part`.
+    /// The expansion of the negation of `part`. Its instances are taken from the budget.
     #[cycle(expand)]
     fn expand_not(
         &self,
@@ -211,7 +211,7 @@ impl<'a> Scope<'a> {
     }
 
     /// The expansions of a quantifier's body, one for each of `cells`. The body has one more variable in scope, which stands
-    /// for the cell.
+    /// for the cell. The instances of the expansions are taken from the budget.
     #[cycle(expand)]
     fn expand_each(
         &self,
@@ -265,7 +265,7 @@ fn disjunction(parts: Result<Items<Expanded>, ExpansionFault>) -> Result<Expande
     }
 }
 
-/// The implication from a premise to a conclusion, or the fault if the conclusion could not be made.
+/// The implication from a premise to a conclusion, or the fault if the conclusion or the implication could not be made.
 fn implication(
     alloc: Global,
     premise: Boxed<Expanded>,

@@ -10,11 +10,11 @@ pub first_symbol : (x : Context) (k : ℕ) (n : Name) (ns all : List Name) → a
     symbol_faults x k all ≡ when (not (is_allowed x (k % length x.known.setting.nodes) n)) (Fault.Unknown n) ++ symbol_faults x (k + 1) ns
 first_symbol x k n ns all is = rw is refl
 
--- if the number of cells is not cut off, neither is the first period
+-- if the number of cells is at least 1 and not cut off, the first period is not cut off either
 first : (bytes : List ℕ) (es : List Entry) (nodes n : ℕ) → n < 4294967295 → 1 ≤ n → product bytes es * nodes ≡ n → option_map_or (entry_value bytes) (slice_get es 0) 1 < 4294967295
 first bytes [] nodes n lt some is = omega arith
 first bytes (e ∷ es) nodes n lt some is = grind (arith, common_steps, mul_assoc, le-mul_of_pos_right)
 
--- the first period of a box with this number of symbols is not cut off
+-- if the periods, the shear and the number of symbols fit, and this number is at least 1 and not cut off, then the first period is not cut off
 pub first_of_box : (x : Context) (v : Vector) (shear : Option Vector) (count : ℕ) → count < 4294967295 → 1 ≤ count → box_fits x v shear count ≡ true → period_at x.text v 0 < 4294967295
 first_of_box x v shear count few some fits = first x.text v.entries (length x.known.setting.nodes) count few some (eqb-true _ _ (and_parts _ _ fits).1)

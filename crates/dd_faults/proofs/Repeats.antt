@@ -11,7 +11,7 @@ module _ {X : Type 0} (key : X → List ℕ) (f : X → Fault) (seen : List (Lis
   pub fresh_first : all ≡ x ∷ rest → ¬ Contains seen (key x) → first_repeat key f seen all ≡ first_repeat key f (seen ++ key x ∷ []) rest
   fresh_first is fresh = rw (is, not_among seen (key x) fresh) refl
 
--- the loop has found the first repetition
+-- if the item at the loop's index repeats one that was seen, its fault is that of the first repetition
 pub twice_at : {X : Type 0} (key : X → List ℕ) (f : X → Fault) (seen : List (List ℕ)) (xs : List X) (i : ℕ) (x : X) → i < length xs → x ≡ slice_index_or xs i x → first_repeat key f seen (drop i xs) ≡ first_repeat key f [] xs →
     Contains seen (key x) → first_repeat key f [] xs ≡ f x ∷ []
 twice_at key f seen xs i x lt at so_far there =

@@ -23,7 +23,7 @@ abbrev pub product : List ℕ → List Entry → ℕ
 product bytes [] = 1
 product bytes (e ∷ es) = entry_value bytes e * product bytes es
 
--- the number of cells of a fundamental box, the box that repeats, with these periods
+-- the number of cells of the fundamental box with these periods
 abbrev pub cells_of : Context → Vector → ℕ
 cells_of x v = product x.text v.entries * length x.known.setting.nodes
 
@@ -31,7 +31,7 @@ cells_of x v = product x.text v.entries * length x.known.setting.nodes
 abbrev pub period_at : List ℕ → Vector → ℕ → ℕ
 period_at bytes v axis = option_map_or (entry_value bytes) (slice_get v.entries axis) 1
 
--- the shear; 0 if none is given
+-- the shear, which is the first entry of its vector; 0 if there is no such entry
 abbrev pub shear_of : List ℕ → Option Vector → ℕ
 shear_of bytes None = 0
 shear_of bytes (Some v) = option_map_or (entry_value bytes) (slice_get v.entries 0) 0

@@ -57,7 +57,7 @@ radius_faults x n = over (nat_lt widest_radius (written_value x.text n)) Limit.R
 abbrev pub is_no_strip : List ℕ → Entry → Bool
 is_no_strip bytes e = nat_lt (entry_value bytes e) 1 || nat_lt longest_strip (entry_value bytes e)
 
--- the faults of the periods of a strip; there must be one fewer than there are axes
+-- the faults of the periods of a strip; there must be one period fewer than there are axes
 abbrev pub strip_faults : Context → Vector → List Fault
 strip_faults x v = dimension_unless (length v.entries + 1 == dimension_of x.known) ++ over (list_any (is_no_strip x.text) v.entries) Limit.Periods
 

@@ -1,4 +1,5 @@
--- The faults of formulas, in the order of the text. A scope is the list of the variables that enclosing quantifiers bind, the outermost first.
+-- The faults of formulas. Faults of the same rank are listed in the order of the text. A scope is the list of the variables that enclosing
+-- quantifiers bind, the outermost first.
 use Rattle.std.specs.Prelude.{ℕ, List, [], ◌∷◌, ◌++◌, length, Bool, not, ◌&&◌, ◌==◌, nat_lt, if◌then◌else◌}
 use Rattle.std.specs.List.{flat_map}
 use Rattle.dd_values.specs.Bounds.{widest_radius}
@@ -13,7 +14,7 @@ unknown_label x w = missing x.text x.known.setting.topology.labels (Name.Word w)
 abbrev pub term_faults : Context → List Word → Term → List Fault
 term_faults x scope t = unknown_variable x.text scope t.first ++ (flat_map (unknown_label x) t.moves ++ over (nat_lt most_moves (length t.moves)) Limit.Moves)
 
--- whether a term names a symbol: it is a single word that isn't a variable
+-- whether a term to the right of `=` or `!=` is taken as the name of a symbol: it is a single word that isn't a variable
 abbrev pub names_symbol : List ℕ → List Word → Term → Bool
 names_symbol bytes scope t = length t.moves == 0 && not (is_variable bytes scope t.first)
 

@@ -38,7 +38,7 @@ abbrev pub better : Option Fault → Fault → Option Fault
 better None f = Some f
 better (Some g) f = if nat_lt (fault_rank f) (fault_rank g) then Some f else Some g
 
--- the first fault of the lowest rank, among the fault found before, if any, and these faults after it
+-- the first fault of the lowest rank among these: the fault found before, if there is one, and then the faults of the list
 abbrev pub noted : Option Fault → List Fault → Option Fault
 noted found [] = found
 noted found (f ∷ fs) = noted (better found f) fs
@@ -65,7 +65,7 @@ abbrev pub Accepts : {X : Type 0} → Result X Refusal → Option Fault → Type
 Accepts (Ok x) found = found ≡ None
 Accepts (Err e) found = Refuses e found
 
--- the result is right: it is the meaning if there is no fault, otherwise the refusal for the first fault of the lowest rank; it may also say that
+-- the result is right: it is `meaning` if there is no fault, otherwise the refusal for the first fault of the lowest rank; it may also say that
 -- memory ran out
 abbrev pub Resolves : {X : Type 0} → Result X Refusal → List Fault → X → Type 0
 Resolves (Ok x) faults meaning = (faults ≡ []) × (x ≡ meaning)

@@ -1,4 +1,4 @@
--- Repetitions: the first item that repeats an earlier one.
+-- Repetitions: the first item that repeats an earlier one. Items are compared by their keys, which are texts.
 use Rattle.std.specs.Prelude.{ℕ, List, [], ◌∷◌, ◌++◌, if◌then◌else◌, nat_lt, bytes_eq, codes}
 use Rattle.std.specs.{List.list_any, List.flat_map, Fmt.signed_decimal}
 use Rattle.dd_known.specs.Limits.{farthest}

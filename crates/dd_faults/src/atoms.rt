@@ -1,6 +1,5 @@
 //! The faults of terms, of atoms, and of quantifiers without their bodies. A term is a variable with moves, such as `o.rt`. An
-//! atom is a formula without parts, such as `o.rt=1`. A scope is the list of the variables that enclosing quantifiers bind, the
-//! outermost first.
+//! atom is a formula without parts, such as `o.rt=1`.
 ghost use Rattle.std.specs.Prelude.{◌≡◌};
 ghost use Rattle.dd_faults.specs.Order.{noted};
 ghost use Rattle.dd_faults.specs.Formulas.{unknown_label, term_faults, names_symbol, side_faults, atom_faults, ball_faults, quantifier_faults};
@@ -12,7 +11,7 @@ use dd_known::{Context, MOST_BALLS, MOST_MOVES};
 use dd_values::WIDEST_RADIUS;
 use dd_written::{Atom, Ball, Comparand, Name, Relation, Term, Word, name_text, number_value};
 
-/// Notes the label of a move if no edge has it.
+/// Notes the label of a move if the topology has no such label.
 impl Notes<Word> for Context {
     ghost faults = { unknown_label };
 
@@ -33,7 +32,7 @@ fn term(context: &Context, scope: &[Word], term: &Term, found: &mut Found)
     note_over(found, term.moves.len() > MOST_MOVES, Limit::Moves);
 }
 
-/// Whether a term names a symbol: it is a single word that isn't a variable.
+/// Whether a term to the right of `=` or `!=` is taken as the name of a symbol: it is a single word that isn't a variable.
 pub fn names_symbol(context: &Context, scope: &[Word], term: &Term) -> bool
     ensures { result ≡ names_symbol context.now.text scope.now term.now }
 {

@@ -46,7 +46,7 @@ fn product(text: &Text, entries: &[Entry]) -> u32
     product
 }
 
-/// The number of cells of a fundamental box, the box that repeats, with these periods. It is cut off at `u32::MAX`.
+/// The number of cells of the fundamental box with these periods, cut off at `u32::MAX`.
 fn cells_of(context: &Context, periods: &Vector) -> u32
     ensures { result ≡ min (cells_of context.now periods.now) 4294967295 }
 {
@@ -88,7 +88,7 @@ pub fn period_at(text: &Text, periods: &Vector, axis: usize) -> u32
     entry.map_or(1, |entry| entry_value(text, *entry))
 }
 
-/// The shear, cut off at `u32::MAX`; 0 if none is given.
+/// The shear, which is the first entry of its vector, cut off at `u32::MAX`; 0 if there is no such entry.
 pub fn shear_of(text: &Text, shear: &Option<Vector>) -> u32
     ensures { result ≡ min (shear_of text.now shear.now) 4294967295 }
 {

@@ -111,8 +111,11 @@ fn note_command(alloc: Global, context: &Context, command: &Command, found: &mut
     Ok(())
 }
 
-/// Accepts a command that has no faults. Refuses any other command for the first among its faults of the lowest rank. The
-/// refusal may also say that memory ran out.
+/// Accepts a command that has no faults. `context` is the context of this command.
+///
+/// # Errors
+/// `At` with the first among the command's faults of the lowest rank. `Memory` if memory ran out, or if a list is longer than
+/// any script can have.
 pub fn check(alloc: Global, context: &Context, written: &Written) -> Result<(), Refusal>
     requires written { IsWritten context.now.text written.now }
     requires sound { IsSound context.now.known }

@@ -31,7 +31,8 @@ pub enum Limit {
     Limits,
     /// A term makes at most `MOST_MOVES` moves.
     Moves,
-    /// A ball's radius, and the radius and the margin of a discharge, are at most `WIDEST_RADIUS`.
+    /// A discharge query has two numbers, its radius and its margin. Each of them, and the radius of a ball, is at most
+    /// `WIDEST_RADIUS`.
     Radius,
     /// A quantifier ranges over at most `MOST_BALLS` balls.
     Balls,
@@ -41,8 +42,8 @@ pub enum Limit {
     Instances,
     /// A rule or an automaton reads only cells that are at most 16 away along each axis.
     Reach,
-    /// Compositions of automata are nested at most 64 deep. In a query about images or about a conjugacy, the images must obey
-    /// a rule, the target. The formula that says that an image obeys the target and has allowed symbols is at most 64 deep too.
+    /// Compositions of automata are nested at most 64 deep. In a query about images or a conjugacy, the target is the rule that
+    /// the images should obey. The formula that says that an image obeys the target and has allowed symbols is at most 64 deep.
     Depth,
     /// A configuration has at most `MOST_IN_BOX` symbols, and its shear is less than its first period. A torus has at most
     /// `MOST_IN_BOX` cells, and none of its periods is 0. A strip's periods are from 1 to `LONGEST_STRIP`.
@@ -52,11 +53,11 @@ pub enum Limit {
     /// If a query asks which patterns a rule forbids, then at each node the cells that the rule reads have at most
     /// `MOST_PATTERNS` fillings.
     Patterns,
-    /// The transfer graph of a strip has at most `MOST_STATES` states and at most `MOST_WINDOWS` windows. A state is a
-    /// filling of successive slices. A window is a state followed by one more slice.
+    /// The transfer graph of a strip has at most `MOST_STATES` states and at most `MOST_WINDOWS` windows. A slice consists of
+    /// the strip's cells with one value of x. A state is a filling of successive slices, and a window fills one slice more.
     States,
     /// A box question asks whether a goal occurs in no configuration that obeys a rule. It takes at most `MOST_CLAUSES` clauses
-    /// on its largest box or torus. A query for the least weight on a torus takes at most as many.
+    /// on its largest box or torus. A query for the least weight on a torus takes at most `MOST_CLAUSES` clauses too.
     Clauses,
 }
 

@@ -12,7 +12,8 @@ use dd_values::Items;
 use dd_written::{Formula, Word};
 use std::alloc::{AllocError, Global};
 
-/// The scope of the body of a quantifier: the scope of the quantifier, with its variable added at the end.
+/// The scope of the body of a quantifier: the scope of the quantifier, with its variable added at the end. Fails only if memory
+/// runs out.
 pub fn within(alloc: Global, scope: &[Word], variable: Word) -> Result<Items<Word>, AllocError>
     ensures { IfOk result (λ inner. inner ≡ scope.now ++ variable ∷ []) }
 {

@@ -1,8 +1,13 @@
-//! The faults of well-formed commands: what can be wrong with a command that follows the grammar. The faults of a command form a
-//! list. Each has a rank. Unknown names have the lowest rank, then come repetitions, then wrong dimensions and wrong numbers of
-//! items, then exceeded limits, in the order of the limits. Faults of the same rank are listed in the order of the text. A
-//! command with faults is refused for one of them: the first in the list among those of the lowest rank. To note faults is to
-//! go through the list and keep that one.
+//! The faults of well-formed commands: what can be wrong with a command that follows the grammar. The faults of a command form
+//! a list. Each has a rank. Unknown names have the lowest rank, then come repetitions, then wrong dimensions and wrong numbers
+//! of items, then exceeded limits, in the order of `Limit`. Faults of the same rank are listed in the order of the text. A
+//! command with faults is refused for one of them: the first in the list among those of the lowest rank. To find it, the faults
+//! are noted in the order of the list. A fault that is noted takes the place of the one kept so far only if its rank is lower.
+//!
+//! The context of a command is the text of the script with what the commands before it have defined. A scope is the list of the
+//! variables that enclosing quantifiers bind, the outermost first. A periodic configuration is given by its periods, perhaps a
+//! shear, and the symbols of its fundamental box, the box that repeats. The shear says how far each repetition along the second
+//! axis is moved along the first.
 //!
 //! The limits `Instances`, `Reach`, `Depth`, `Patterns`, `States` and `Clauses` depend on what a command means. This crate
 //! doesn't test them, so the list doesn't contain their faults.

@@ -20,7 +20,7 @@ pub(crate) fn note_dimension_unless(found: &mut Found, fits: bool)
     note_if(found, !fits, Fault::Dimension);
 }
 
-/// Notes a word that is too long, or a number that is too large.
+/// Notes a word that is too long, or a number that is too large in absolute value.
 impl Notes<Lexeme> for Text {
     ghost faults = { token_faults };
 
@@ -106,7 +106,7 @@ fn is_no_strip(text: &Text, vector: &Vector) -> bool
     })
 }
 
-/// Notes the faults of the periods of a strip. There must be one fewer than there are axes.
+/// Notes the faults of the periods of a strip. There must be one period fewer than there are axes.
 impl<'a> Notes<Vector> for Asked<'a> {
     ghost faults = { λ asked. strip_faults asked.0.now };
 

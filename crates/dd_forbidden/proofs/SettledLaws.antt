@@ -25,7 +25,7 @@ settles_on r a ss s b h more below =
 settled_here : (r : LocalRule) (a : ℕ) (ss : List ℕ) (b : Bool) → AreSymbols r ss → Settles r a ss b → is_true_at_origin r a ss ≡ b
 settled_here r a ss b below h = ap (is_true_at_origin r a) (sym (append-nil ss)) ∙ h [] (subst (AreSymbols r) (sym (append-nil ss)) below)
 
--- if two functions agree on all numbers of a range, the concatenations of their lists over the range are equal
+-- if two functions agree on all numbers below `most`, the concatenations of their lists over a range of such numbers are equal
 agree : (f g : ℕ → List (List ℕ)) (k n most : ℕ) → k + n ≤ most → ((s : ℕ) → s < most → f s ≡ g s) → flat_map f (range_with_len k n) ≡ flat_map g (range_with_len k n)
 agree f g k zero most within same = refl
 agree f g k (suc n) most within same =
@@ -47,7 +47,7 @@ none_broken r a (c ∷ cs) ss below h =
     (λ s within. ap (λ xs. cond (rule_allows r c.node s) xs []) (none_broken r a cs (ss ++ s ∷ []) (All-push (λ t. t < r.symbols) ss s below within) (settles_on r a ss s true h)) ∙ cond_none (rule_allows r c.node s))
     ∙ nothing_from 0 r.symbols
 
--- where the symbols settle that the rule is false, all fillings are listed
+-- where the symbols settle that the rule is false, all fillings with allowed symbols are listed
 pub all_broken : (r : LocalRule) (a : ℕ) (cs : List Cell) (ss : List ℕ) → AreSymbols r ss → Settles r a ss false → extensions r a cs ss ≡ completions r cs ss
 all_broken r a [] ss below h = ap (λ b. cond b [] (ss ∷ [])) (settled_here r a ss false below h)
 all_broken r a (c ∷ cs) ss below h =

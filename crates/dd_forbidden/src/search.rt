@@ -1,6 +1,6 @@
 //! The search for the breaking fillings. It takes the cells one by one, and tries each symbol that the cell's node allows, in
-//! order. If the symbols so far already settle that the rule is true, the branch ends. If they settle that it is false, all
-//! fillings of the branch are listed.
+//! order. If `Numbered::settled` finds that the rule is true whatever symbols follow, the branch ends. If it finds that the
+//! rule is false whatever symbols follow, all fillings of the branch are listed.
 ghost use Rattle.std.specs.Prelude.{[], ◌∷◌, ◌≡◌, ◌<◌, ◌+◌, ◌++◌, length, map, OnOk};
 ghost use Rattle.std.specs.List.Sorted.{IsStrictlySortedBy};
 ghost use Rattle.dd_lattice.specs.Order.{cell_cmp};
@@ -56,7 +56,8 @@ pub(crate) fn extend(
     Ok(())
 }
 
-/// Appends all fillings with allowed symbols that begin with `symbols`, whether the rule is true under them or not.
+/// Appends all fillings that begin with `symbols` and give allowed symbols to the cells of `rest`, whether the rule is true
+/// under them or not.
 fn complete(
     alloc: Global,
     rule: &Rule,

@@ -54,11 +54,11 @@ greatest_le : (fs : List Formula) (n : ℕ) → nat_le (greatest (map depth fs))
 greatest_le [] n = le-leb 0 n (omega arith)
 greatest_le (f ∷ fs) n = max_within (depth f) (greatest (map depth fs)) n ∙ ap (λ b. nat_le (depth f) n && b) (greatest_le fs n)
 
--- a list of fewer than two parts
+-- a conjunction or disjunction of fewer than two parts is at most n deep exactly when each part is
 pub shallow_few : (fs : List Formula) (n : ℕ) → length fs < 2 → nat_le (list_depth (map depth fs)) n ≡ list_all (λ f. nat_le (depth f) n) fs
 shallow_few fs n few = rw (length-map fs depth, lt-leb 2 (length fs) few) (greatest_le fs n)
 
--- a list of two or more
+-- with two parts or more, it is at most k + 1 deep exactly when each part is at most k deep
 pub shallow_many : (fs : List Formula) (n k : ℕ) → 2 ≤ length fs → n ≡ k + 1 → nat_le (list_depth (map depth fs)) n ≡ list_all (λ f. nat_le (depth f) k) fs
 shallow_many fs n k many is = rw (length-map fs depth, le-leb 2 (length fs) many) (one (greatest (map depth fs)) ∙ greatest_le fs k) where
   one : (m : ℕ) → nat_le (1 + m) n ≡ nat_le m k
@@ -69,7 +69,7 @@ shallow_none fs many = rw (length-map fs depth, le-leb 2 (length fs) many) (none
   none : (m : ℕ) → nat_le (1 + m) 0 ≡ false
   none m = grind (arith, nat_tests)
 
--- each part is no deeper than the list
+-- each part is no deeper than the conjunction or disjunction, so a bound on the latter's depth holds for each part
 pub parts_within : (fs : List Formula) (k n : ℕ) → k + list_depth (map depth fs) < n → All (λ f. k + depth f < n) fs
 parts_within fs k n whole i d within =
     omega (arith, whole, greatest_at fs i d within, cond_more (nat_le 2 (length (map depth fs))) (greatest (map depth fs)))

@@ -1,4 +1,4 @@
--- Which automata aren't well formed.
+-- Which automata aren't well formed. A checked copy exists exactly when the automaton is well formed.
 use Rattle.std.proofs.Common.{◌≡◌, ◌≢◌, ◌≤◌, ℕ, true, false, sym, subst, ◌∙◌, arith, refl, Result, Ok, Err, Some, None}
 use Rattle.std.proofs.lemmas.Bool.{and_parts, false≢true}
 use Rattle.std.specs.{Prelude.◌↔◌, Prelude.◌&&◌, Prelude.Option, Prelude.is_some, Prelude.IfOk, declared.alloc.AllocError.AllocError}

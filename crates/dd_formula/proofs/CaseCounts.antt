@@ -46,6 +46,7 @@ module _ (g : Grid) (s : SymbolSets) where
         ∙ (list_all-map (λ (c : LocalRule × ℕ). list_all is_near (reads_at c.0 a)) (case_over g s) cases
         ∙ list_all_at (near a) cases i case below (ap (near a) (sym is) ∙ h))
 
-    -- if no rule can be made from the case's formula, then the automaton is refused too
+    -- if the automaton is within the limit on instances, and the case's formula is refused as a rule for a fault, then the automaton is refused for
+    -- this fault too
     pub case_refused : (e : RuleFault) → is_few g.nodes (counts_over g s cases) ≡ true → IsRuleRefusal (local_rule g s case.0) e → IsCasesRefusal g.nodes (counts_over g s cases) e
     case_refused e few h = refused (local_rule g s case.0) (counts_over g s cases) large far e (λ _. few) h

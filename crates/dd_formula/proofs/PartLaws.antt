@@ -1,4 +1,4 @@
--- What a rule stores follows from its expansions at the nodes.
+-- The cells in the leaves of a rule's expansions are the cells that the rule reads. They show whether the rule is within the limit on reach.
 use Rattle.std.proofs.Common.{◌≡◌, ◌≤◌, ℕ, ◌⊎◌, inl, inr, true, false, [], ◌∷◌, map, sym, subst, ◌∙◌}
 use Rattle.std.specs.List.{list_all}
 use Rattle.dd_lattice.specs.InOrder.{in_order}
@@ -29,7 +29,7 @@ module _ (r : LocalRule) (some : 1 ≤ r.symbols) where
       let found = some_fails (λ e. list_all is_near (leaf_cells e)) (expansion_at r) r.nodes h in
       record { node = found.node; exists = found.exists; far = sym (near_leaves found.node) ∙ found.fails }
 
-  -- a fault that is right for the cells that the expansions read is right for the rule
+  -- if the rule is within the limit on instances, then a fault that is right for the cells that its expansions read is right for the rule
   pub refused_from : (fault : RuleFault) → IsSmall r → (fault ≡ Memory) ⊎ ((fault ≡ Reach) × (list_all (λ e. list_all is_near (leaf_cells e)) (at_nodes (expansion_at r) r.nodes) ≡ false)) →
       IsRuleRefusal r fault
   refused_from fault small (inl is) = subst (IsRuleRefusal r) (sym is) tt

@@ -1,4 +1,4 @@
--- Fillings of the cells that are read at a cell, and the values on these fillings.
+-- Fillings of the cells that an automaton reads at a cell, and its values on these fillings.
 use Rattle.std.proofs.Common.{◌≡◌, ◌<◌, ℕ, zero, suc, ◌+◌, Bool, true, false, List, [], ◌∷◌, ◌++◌, take, Option, Some, None, cond, length, get_or, slice_get, ap, sym, ◌∙◌, refl, subst, arith}
 use Rattle.std.proofs.lemmas.Bool.{and_parts, and_from, leb-true}
 use Rattle.std.proofs.lemmas.List.{length-map, take_more, map-append}
@@ -177,7 +177,7 @@ pub values_more : {Y : Type 0} (h : Cell → Y) (cs : List Cell) (i : ℕ) (c : 
 values_more h cs i c below is =
     ap (map h) (take_more cs i c below) ∙ (map-append h (take i cs) (get_or cs i c ∷ []) ∙ ap (λ d. map h (take i cs) ++ h d ∷ []) (sym is))
 
--- putting the cells that are read in cell order doesn't change whether they all have symbols
+-- `are_given` holds of the cells that an automaton reads, listed in cell order, exactly when `is_read` holds of the automaton
 pub cells_given : (f : Automaton) (c : Cell) (look : Look) (cs : List Cell) → cs ≡ cells_of f c.node → are_given look c.position cs ≡ is_read f c look
 cells_given f c look cs is =
     ap (are_given look c.position) is ∙ list_all-in_order (λ d. is_some (seen look c.position d)) ((counted f).reads c.node)

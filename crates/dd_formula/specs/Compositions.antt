@@ -24,7 +24,8 @@ OverBoth f g P = (s : CommonNumbers) → IsAutomaton s f → IsAutomaton s g →
 abbrev pub composition : Automaton → Automaton → Counted
 composition f g = counted (v.Composed f g)
 
--- to see whether the limits on instances and reach hold at all nodes of the setting, it is enough to test the first `nodes` nodes
+-- the setting has at least `nodes` nodes; and each of the limits on instances and reach holds at all nodes of the setting exactly when it holds at
+-- the first `nodes` nodes
 pub record StandFor (s : CommonNumbers) (f : Counted) (nodes : ℕ) : Type 0 where
   pub below : nodes ≤ s.nodes
   pub few : is_few s.nodes f ≡ is_few nodes f

@@ -12,7 +12,7 @@ pub record Fits (r : LocalRule) (t : Tile) : Type 0 where
   pub nodes : t.nodes ≡ r.nodes
   pub symbols : All (λ s. s < r.symbols) t.symbols
 
--- the rule is true at each position of Z^d and each node, under the symbols that the look-up gives
+-- the rule is true at each node of each position of Z^d, under the symbols that the look-up gives
 abbrev pub Obeys : LocalRule → Look → Type 0
 Obeys r look = (v : Place) (a : ℕ) → is_flat r.dimension v ≡ true → a < r.nodes → is_true r (cell v a) look ≡ true
 

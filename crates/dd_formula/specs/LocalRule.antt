@@ -23,7 +23,7 @@ pub record LocalRule : Type 0 where
 abbrev pub kept_rule : ℕ → ℕ → SymbolSets → List Edge → Formula → LocalRule
 kept_rule d nodes s edges f = record { dimension = d; nodes = nodes; symbols = s.symbols; allowed = s.allowed; edges = edges; formula = f }
 
--- the rule with this formula, over the topology and the symbols that its nodes allow
+-- the rule with this formula over this topology; the sets say which symbols of the alphabet each node allows
 abbrev pub local_rule : Grid → SymbolSets → Formula → LocalRule
 local_rule g s f = kept_rule g.dimension g.nodes s g.edges f
 

@@ -33,6 +33,6 @@ pub record HasCasesLook (cases : Cases) (c : Cell) (look : Look) : Type 0 where
 abbrev pub CasesArePlaced : Cases → Type 0
 CasesArePlaced c = (s : CommonNumbers) → cases_fit s c.cases c.otherwise ≡ true → (a : ℕ) → a < s.nodes → list_all (is_cell_of s) (cases_reads c.cases a) ≡ true
 
--- the same for an automaton, in each setting in which it is well formed
+-- in each setting in which the automaton is well formed, each cell that it reads has a position in Z^d and one of the setting's nodes
 abbrev pub IsPlaced : Automaton → Type 0
 IsPlaced f = (s : CommonNumbers) → IsAutomaton s f → (a : ℕ) → a < s.nodes → list_all (is_cell_of s) ((counted f).reads a) ≡ true

@@ -13,7 +13,7 @@ fn are_below(symbols: &[u32], limit: u32) -> bool
     symbols.iter().all(|&symbol| symbol < limit)
 }
 
-/// Whether the configuration has the rule's dimension, its number of nodes, and symbols of its alphabet.
+/// Whether the configuration has the rule's dimension, the rule's number of nodes, and only symbols of the rule's alphabet.
 pub fn fits(rule: &Rule, configuration: &Periodic) -> bool
     ensures { IsTrue result ↔ Fits rule.now configuration.now }
 {
@@ -22,7 +22,7 @@ pub fn fits(rule: &Rule, configuration: &Periodic) -> bool
         && are_below(configuration.symbols(), rule.symbols())
 }
 
-/// Whether each cell of the configuration has a symbol that the cell's node allows.
+/// Whether each cell of the configuration has a symbol that the cell's node allows. The configuration must fit the rule.
 pub fn has_allowed(rule: &Rule, configuration: &Periodic) -> bool
     requires { Fits rule.now configuration.now }
     ensures { IsTrue result ↔ HasAllowed rule.now configuration.now }

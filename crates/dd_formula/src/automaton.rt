@@ -30,7 +30,7 @@ pub struct Cases {
 pub enum Automaton {
     /// Gives each cell a symbol by cases.
     Given(Cases),
-    /// Applies the first automaton to the image of a configuration under the second.
+    /// Applies the first automaton, the outer one, to the image of a configuration under the second, the inner one.
     Composed(Boxed<Automaton>, Boxed<Automaton>),
 }
 
@@ -78,8 +78,8 @@ impl Cases {
         }
     }
 
-    /// The number of instances at a node, or `MOST_INSTANCES + 1` if there are more than `MOST_INSTANCES`. The contract also says
-    /// that the rules read only cells within the limit on reach.
+    /// The number of instances that the automaton with these cases has at a node, or `MOST_INSTANCES + 1` if there are more
+    /// than `MOST_INSTANCES`. The contract also says that the rules read only cells within the limit on reach there.
     pub(crate) fn instances(&self, node: u32) -> u32
         requires { HasCaseNode self.now node }
         ensures count { result ≡ cut most_instances (case_instances node self.now.cases + 1) }
@@ -230,7 +230,8 @@ impl Automaton {
         }
     }
 
-    /// How deep compositions are nested: 0 for an automaton that is given by cases.
+    /// How deep compositions are nested: 0 for an automaton that is given by cases. A composition is one deeper than the deeper
+    /// of its two parts.
     #[tactic(auto, using(crate::specs::lemmas::AutomatonLaws::layers))]
     pub fn depth(&self) -> u32
         requires { (s : CommonNumbers) × IsAutomaton s self.now }

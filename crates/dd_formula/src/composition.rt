@@ -14,7 +14,8 @@ use std::alloc::{AllocError, Global};
 const MOST_DEPTH: u32 = 64;
 
 impl Automaton {
-    /// The automaton that applies `inner` to a configuration, and then `outer` to the result.
+    /// The automaton that applies `inner` to a configuration, and then `outer` to the result. Both must have the same
+    /// dimension, number of nodes and alphabet.
     ///
     /// # Errors
     /// `Instances` if the composition has more than 20,000 instances at some node; else `Reach` if it reads a cell that lies more

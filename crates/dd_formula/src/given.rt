@@ -7,7 +7,8 @@ use crate::automaton::{Automaton, Cases};
 use crate::making::MOST_INSTANCES;
 
 impl Automaton {
-    /// The automaton with these cases, whose rules have `nodes` nodes. Allocates nothing.
+    /// The automaton with these cases. Their rules must all have `nodes` nodes (at least one) and the same dimension and
+    /// alphabet. The symbols of the cases and the default symbol must be in this alphabet. Allocates nothing.
     ///
     /// # Errors
     /// Returns the cases if the automaton has more than 20,000 instances at some node.

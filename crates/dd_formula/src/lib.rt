@@ -1,12 +1,19 @@
-//! Local rules and cellular automata: the truth of a rule, the value of an automaton, the cells that they read (the cells
-//! whose symbols they look up), and their limits. The crate also tests whether a periodic configuration lives in the subshift
-//! of a rule: the set of the configurations for which the rule is true at every cell. A periodic configuration is determined by
-//! the symbols in one box, its fundamental box.
+//! Local rules and cellular automata: the truth of a rule, the value of an automaton, the cells that they read, and their
+//! limits. A cell is a position of the lattice Z^d together with one of the position's nodes. A configuration gives a symbol to
+//! each cell. A rule is a formula, which is true or false at each cell of a configuration. An automaton gives each cell of a
+//! configuration a new symbol, its value there. It does so by cases, each of which is a rule with a symbol, or it is the
+//! composition of two automata. A composition applies the first automaton, the outer one, to the image of the configuration
+//! under the second, the inner one. A rule or an automaton reads the cells whose symbols it looks up.
+//!
+//! The subshift of a rule is the set of the configurations for which the rule is true at every cell. The crate tests whether a
+//! periodic configuration lives in it, that is, belongs to it. A periodic configuration is determined by the symbols in one
+//! box, its fundamental box.
 //!
 //! Three numbers are limited: the number of instances, the reach and the depth. The expansion of a rule at a node is the rule's
-//! formula there, without variables. Its constants, leaves and connectives are the rule's instances at the node. (A leaf says
-//! that a cell has a certain symbol.) The reach is how far away cells are read. The depth of an automaton is how deep its
-//! compositions are nested.
+//! formula at a cell with this node, written without variables. Its constants, leaves and connectives are the rule's instances
+//! at the node. (A leaf says that a cell has a certain symbol.) `Automaton::instances` says what the instances of an automaton
+//! are. The reach is how far away cells are read; its limit is 16. A cell or a position is near the origin if it lies at most
+//! 16 away along each axis. The depth of an automaton is how deep its compositions are nested.
 //!
 //! Cells are listed in cell order: by z, then y, then x, then the node. A cell lies in the range of positions if each
 //! coordinate of its position is at most 2^20 in absolute value.

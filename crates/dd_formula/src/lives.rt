@@ -16,8 +16,9 @@ pub enum Membership {
 }
 
 impl Rule {
-    /// Whether the configuration lives in the rule's subshift, that is, whether the rule is true at each cell. Tests the cells of
-    /// the configuration's fundamental box in cell order. Allocates nothing.
+    /// Whether the configuration lives in the rule's subshift, that is, whether the rule is true at each cell. Tests the cells
+    /// of the configuration's fundamental box in cell order. The configuration must fit the rule (see `fits`). Allocates
+    /// nothing.
     pub fn member(&self, periodic: &Periodic) -> Membership
         requires { Fits self.now periodic.now }
         ensures { IsMembership self.now periodic.now result }

@@ -1,4 +1,5 @@
-//! Facts for proofs: the cells that an automaton reads are cells of its lattice.
+//! Facts for proofs: each cell that an automaton reads has a position in Z^d and one of the nodes of its rules. Here d is the
+//! dimension of the rules.
 ghost use Rattle.dd_formula.specs.Values.{CasesArePlaced, IsPlaced};
 
 use crate::automaton::{Automaton, Cases};

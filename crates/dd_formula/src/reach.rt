@@ -46,8 +46,8 @@ impl Rule {
 }
 
 impl Automaton {
-    /// How far away the automaton reads cells when it is evaluated at the origin: the greatest distance along any axis, over the
-    /// first `nodes` nodes.
+    /// How far away the automaton reads cells when it is evaluated at the origin: the greatest distance along any axis, over
+    /// the first `nodes` nodes. The rules of the automaton must have at least that many.
     pub fn reach_at(&self, alloc: Global, nodes: u32) -> Result<u32, AllocError>
         requires { HasNodes self.now nodes }
         ensures value { IfOk result (λ n. n ≡ automaton_reach nodes self.now) }

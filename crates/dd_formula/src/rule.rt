@@ -52,7 +52,7 @@ impl Model for Rule {
 }
 
 impl Rule {
-    /// The rule with this formula, over the topology and the symbols that its nodes allow.
+    /// The rule with this formula over this topology. `sets` says which symbols of the alphabet each node allows.
     ///
     /// # Errors
     /// `Instances` if the expansion at some node has more than 20,000 instances; else `Reach` if the rule reads a cell that lies
@@ -181,8 +181,8 @@ impl Rule {
 }
 
 impl Rule {
-    /// Whether the expansion is true at a cell. `None` if a cell in one of its leaves has no symbol or lies outside the range of
-    /// positions.
+    /// Whether the expansion is true at a cell. The cells in its leaves are moved by this cell's position. `None` if one of the
+    /// moved cells has no symbol or lies outside the range of positions.
     fn truth_of_expansion<R: Reads>(&self, at: &Cell, read: &R) -> Option<bool>
         requires { at.now.node < self.now.nodes }
         ensures value { let look = seen (R.symbols read.now) at.now.position in
@@ -194,7 +194,7 @@ impl Rule {
     }
 
     /// Whether the formula is true at a cell. `None` if some cell that the rule reads there has no symbol or lies outside the
-    /// range of positions. Allocates nothing.
+    /// range of positions. All symbols that `read` gives must be in the alphabet. Allocates nothing.
     pub fn truth<R: Reads>(&self, at: &Cell, read: &R) -> Option<bool>
         requires node { at.now.node < self.now.nodes }
         requires symbols { HasSymbolsBelow self.now.symbols (R.symbols read.now) }

@@ -33,7 +33,7 @@ fn shifted(cell: &Cell, by: &Position) -> Cell
     }
 }
 
-/// Appends the cells, moved by the vector `by`.
+/// Appends the cells to `found`, each moved by the vector `by`.
 pub(crate) fn push_shifted(
     found: &mut Vec<Cell>,
     by: &Position,

@@ -16,7 +16,8 @@ use std::alloc::{AllocError, Global};
 
 impl Cases {
     /// The symbol of the first case whose rule is true at the cell, or the default symbol if there is no such case. Each cell
-    /// that the rules read there must lie in the range of positions and have a symbol. Allocates nothing.
+    /// that the rules read there must lie in the range of positions and have a symbol. All symbols that `read` gives must be in
+    /// the alphabet. Allocates nothing.
     pub fn value<R: Reads>(&self, at: &Cell, read: &R) -> u32
         requires { HasCasesLook self.now at.now (R.symbols read.now) }
         ensures { result ≡ first_case self.now.cases self.now.otherwise (R.symbols read.now) at.now }
@@ -34,7 +35,7 @@ impl Cases {
 
 impl Automaton {
     /// The symbol that the automaton gives a cell. `None` if some cell that it reads there has no symbol or lies outside the
-    /// range of positions.
+    /// range of positions. All symbols that `read` gives must be in the alphabet.
     pub fn value<R: Reads>(
         &self,
         alloc: Global,

@@ -1,4 +1,4 @@
--- Exact fractions: a whole number over a positive whole number, both of any size.
+-- Exact fractions: a whole number over a natural number, both of any size. The denominator 0 counts as 1.
 use Rattle.std.specs.Prelude.{◌≡◌, ℕ, ◌*◌, ◌/◌, ◌<◌, max, suc}
 use Rattle.std.specs.Int.RustNames.{unsigned_abs, int_div}
 use lib.IntN.{ℤ, pos, negsuc, neg_ℤ, ◌+ℤ◌, ◌*ℤ◌}
@@ -8,7 +8,7 @@ pub record Exact : Type 0 where
   pub num : ℤ
   pub den : ℕ
 
--- The denominator, with 1 in place of 0. No fraction has the denominator 0, but with this convention the laws need no premise that excludes it.
+-- The denominator, with 1 in place of 0. With this convention the laws need no premise that the denominator is not 0.
 abbrev pub den_of : Exact → ℕ
 den_of a = max 1 a.den
 

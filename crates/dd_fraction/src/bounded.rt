@@ -46,8 +46,7 @@ pub fn sum(a: i128, b: i128) -> Option<i128>
     }
 }
 
-/// The sum of two signed machine words, which is never too large. `None` if one of the two numbers is not a signed machine
-/// word.
+/// The sum, or `None` if one of the two numbers is not a signed machine word. The sum of two such words is never too large.
 #[inline(always)]
 pub fn word_sum(a: i128, b: i128) -> Option<i128>
     ensures value { IfSome result (λ s. s ≡ a +ℤ b) }

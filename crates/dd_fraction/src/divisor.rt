@@ -7,7 +7,7 @@ ghost use Rattle.dd_fraction.specs.Divisor.{greatest_common};
 /// The greatest unsigned machine word.
 const GREATEST_WORD: u128 = 18_446_744_073_709_551_615;
 
-/// The greatest number that divides both. If one of the two is 0, this is the other one.
+/// The greatest number that divides both `a` and `b`. If one of the two is 0, the result is the other one.
 #[inline(always)]
 pub fn greatest_common_divisor(a: u128, b: u128) -> u128
     ensures { result ≡ greatest_common a b }

@@ -1,4 +1,5 @@
-//! Laws of exact fractions, as contracts of calls that do nothing. Fractions with the same lowest terms count as equal.
+//! Laws of exact fractions, as contracts of calls that do nothing. Fractions with the same lowest terms count as equal: sums
+//! and products are in lowest terms, and bringing an operand to lowest terms doesn't change them. The contracts say this too.
 ghost use Rattle.dd_fraction.specs.Laws.{AreSumLaws, AreProductLaws, AreOppositeLaws, AreOrderLaws, AreOrderedFieldLaws};
 
 /// Does nothing; its contract says that addition is commutative and associative, that adding 0 changes nothing, and that a
@@ -8,7 +9,8 @@ pub fn sum_laws()
 {}
 
 /// Does nothing; its contract says that multiplication is commutative and associative, that multiplying by 1 changes nothing,
-/// that each fraction other than 0 has an inverse, and that multiplication distributes over addition.
+/// that multiplying by 0 gives 0, that each fraction other than 0 has an inverse, and that multiplication distributes over
+/// addition.
 pub fn product_laws()
     ensures { AreProductLaws }
 {}
@@ -19,13 +21,15 @@ pub fn opposite_laws()
     ensures { AreOppositeLaws }
 {}
 
-/// Does nothing; its contract says that the order is total, and that `Fraction::compare` follows it.
+/// Does nothing; its contract says that the order is reflexive, transitive, antisymmetric and total, and that
+/// `Fraction::compare` follows it.
 pub fn order_laws()
     ensures { AreOrderLaws }
 {}
 
 /// Does nothing; its contract says that the order is preserved by adding, and by multiplying by a factor of at least 0, and
-/// that taking opposites reverses it.
+/// that taking opposites reverses it. It also says that a is at most b exactly when b - a is at least 0, and gives the signs of
+/// sums, products and inverses.
 pub fn ordered_field_laws()
     ensures { AreOrderedFieldLaws }
 {}

@@ -96,9 +96,10 @@ impl Fraction {
     pub fn add(&self, other: &Fraction) -> Option<Fraction>
         ensures { result ≡ checked_sum self.now other.now }
     {
-        // This read tells the proof what the type guarantees.
+        // Reading a field of `other` lets the proof use the invariant of its type.
         let _ = &other.num;
-        // Adding 0/1 changes nothing: one cross product is 0, and the other one is the numerator of `other`.
+        // The sum of 0/1 and `other` is `other`. The cross products are 0 and the numerator of `other`, and the product of the
+        // denominators is that of `other`, so no intermediate number is too large.
         if self.num == 0 && self.den == 1 {
             return Some(*other);
         }
@@ -108,8 +109,9 @@ impl Fraction {
         }
     }
 
-    /// The sum of two fractions with the same denominator, without cross products. `None` if the denominators differ, or if
-    /// one of the numbers is not a signed machine word. For such words, no intermediate number of `cross_sum` is too large.
+    /// The sum of two fractions with the same denominator, without cross products. `None` if the denominators differ, or if a
+    /// numerator or the denominator is not a signed machine word. If all three are such words, no intermediate number of
+    /// `cross_sum` is too large.
     #[inline(always)]
     fn alike_sum(&self, other: &Fraction) -> Option<Fraction>
         ensures { IfSome result (λ s. Some s ≡ checked_sum self.now other.now) }

@@ -1,5 +1,5 @@
-//! Compares two ratios without computing a product. The whole parts are compared first. If they are equal, the inverses of the
-//! remaining fractional parts are compared, as in continued fractions.
+//! Compares two ratios without computing a product. The whole parts are compared first. If they are equal, and neither
+//! fractional part is 0, the inverses of the fractional parts are compared, as in continued fractions.
 ghost use Rattle.std.specs.Prelude.{◌≡◌, ◌<◌, ◌*◌};
 ghost use Rattle.std.specs.Ordering.{nat_cmp};
 

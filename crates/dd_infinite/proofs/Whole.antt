@@ -1,5 +1,5 @@
--- Which functions are configurations with the script's nodes and allowed symbols: the spike and the checkerboard, if the script has one node, which
--- allows the symbols 0 and 1; and the configurations that the script defines.
+-- Which functions are configurations with the script's nodes and allowed symbols. The spike and the checkerboard are, if the script has one node,
+-- which allows the symbols 0 and 1. The configurations that the script defines are, too.
 use Rattle.std.proofs.Common.{◌≡◌, ℕ, zero, suc, ◌<◌, ◌+◌, ◌-◌, ◌*◌, ◌%◌, pos, Bool, true, false, length, refl, sym, subst, arith, inl, inr, Contains}
 use Rattle.std.proofs.lemmas.{Bool.and_from, Int.ints, Nat.mod_below, Nat.mod-mul-add}
 use Rattle.std.proofs.lemmas.List.Elements.{All-contains}
@@ -73,7 +73,7 @@ inversion s number a v query asks position is certificate =
 pub has_rows : (s : Parts) → IsScriptOf s → s.known.setting.topology.nodes ≡ 1 → 0 < length s.known.setting.sets.allowed
 has_rows s ok one = let n = ok.known.setting.sets.nodes in let m = ok.known.setting.topology.nodes in omega (arith, n, m, one)
 
--- in the index of a cell the node varies fastest
+-- the node varies fastest in a tile's list of symbols, so the index of a cell modulo the number of nodes is the cell's node
 node_of : (t : Tile) (c : Cell) → c.node < t.nodes → tile_index t c % t.nodes ≡ c.node
 node_of t c below =
     let p = t.periods in

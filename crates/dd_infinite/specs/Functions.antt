@@ -18,7 +18,7 @@ spike c = cond (same_place c.position (place (pos 0) (pos 0) (pos 0))) 1 0
 abbrev pub checkerboard : Cell → ℕ
 checkerboard c = (unsigned_abs c.position.x + unsigned_abs c.position.y + unsigned_abs c.position.z) % 2
 
--- the symbols of a fundamental box, repeated along its periods
+-- the periodic configuration that a tile stands for: the symbols of its fundamental box, repeated with its periods and its shear
 abbrev pub tiled : Tile → Cell → ℕ
 tiled t c = slice_index t.symbols (tile_index t c)
 

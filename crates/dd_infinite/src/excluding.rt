@@ -38,8 +38,9 @@ fn is_yes(answer: &Answer) -> bool
 /// - `place` is a position of Z^d;
 /// - the answer is YES, and the check accepts it for this query.
 ///
-/// Then, if the configuration obeys the query's premise everywhere, the goal doesn't hold at `place`. If the query asks about an
-/// equality, this is so for both its box questions. `Ok(false)` says nothing about the configuration.
+/// Then, if the configuration obeys the query's premise everywhere, the goal doesn't hold at `place`. A query about an equality
+/// has two box questions, each with a premise and a goal of its own, and this law holds for both. `Ok(false)` says nothing
+/// about the configuration.
 ///
 /// The configuration must have the script's number of nodes, and at each cell of Z^d a symbol that the cell's node allows.
 ///

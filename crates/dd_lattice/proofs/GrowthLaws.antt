@@ -1,4 +1,5 @@
--- Runs of copies of a region along an axis, and how runs along one axis after another make the region grow.
+-- Runs along an axis, and how runs along one axis after another make a region grow. The run from low to high has a copy of the region for each number
+-- of steps from low to high - 1. A position is near a list on the first d axes if it satisfies `IsNearby d n` for the list.
 use Rattle.std.proofs.Common.{◌≡◌, ◌⊎◌, inl, inr, ℕ, ◌<◌, ◌≤◌, Bool, true, false, ℤ, pos, negsuc, ◌+ℤ◌, ◌-ℤ◌, ◌≤ℤ◌, List, [], ◌∷◌, ap, sym, refl, ◌∙◌, arith}
 use Rattle.std.proofs.lemmas.{Int.ints, Bool.Decides.nat_tests, List.Elements.All-nil}
 use Rattle.std.specs.{Prelude.◌<ℤ◌, List.Contains, List.Sorted.IsStrictlySortedBy, Cmp.int_ranks, Ordering.int_cmp, Ordering.MatchOrdering}
@@ -40,7 +41,7 @@ pub either_from_extended : (axis : Axis) (c : ℤ) (ps copy : List Place) → Is
 either_from_extended axis c ps copy region p (inl h) = inl h
 either_from_extended axis c ps copy region p (inr h) = inr ((region.members p).1 h)
 
--- one copy is a run of length one
+-- the copy moved by low steps lies in each run that starts at low
 pub run_from_moved : (axis : Axis) (low high : ℤ) (ps : List Place) → low <ℤ high → (p : Place) → IsMoved ps (along axis low) p → IsStretched axis low high ps p
 run_from_moved axis low high ps some p h = record {
   origin = h.0;
@@ -91,7 +92,7 @@ by_order c high Greater h = inr (omega (arith, ints))
 step_cases : (c high : ℤ) → (c <ℤ high) ⊎ (high ≤ℤ c)
 step_cases c high = by_order c high (int_cmp c high) (int_ranks c high)
 
--- if s is at most the run's length, the run that is longer by s lies in the union of the run and that copy
+-- if s is at most the run's length, the run that is longer by s lies in the union of the run and its copy that is moved by s steps
 pub run_extended : (axis : Axis) (low high s : ℤ) (ps run : List Place) → pos 0 ≤ℤ s → (low +ℤ s) ≤ℤ high → IsRegionOf (IsStretched axis low high ps) run →
     (p : Place) → IsStretched axis low (high +ℤ s) ps p → IsExtended axis s run p
 run_extended axis low high s ps run some short region p h =
@@ -113,7 +114,7 @@ run_extended axis low high s ps run some short region p h =
           inr (q, member, h.is ∙ (ap (λ c. moved h.origin (along axis c)) (sym steps_are) ∙ sym (moved_twice axis h.origin (h.steps -ℤ s) s))))
     ]
 
--- the run along the first axis has exactly the positions near the list on this axis
+-- each position of the run from -n to n + 1 along the first axis is near the list on this axis; `x_from_near` is the converse
 pub near_from_x : (n : ℕ) (ps : List Place) (p : Place) → IsStretched X (pos 0 -ℤ pos n) (pos n +ℤ pos 1) ps p → IsNearby 1 n ps p
 near_from_x n ps p h =
     let least = h.least in
@@ -139,7 +140,7 @@ x_from_near n ps p h =
       is = same_place _ _ (omega (arith, ints)) (omega (arith, ints)) (omega (arith, ints));
     }
 
--- the run along the second axis, applied to what is near the list on the first axis, has exactly the positions near the list on the first two
+-- mid is what is near the list on the first axis: each position of its run along the second is near the list on both; `y_from_near` is the converse
 pub near_from_y : (n : ℕ) (ps mid : List Place) → IsRegionOf (IsNearby 1 n ps) mid → (p : Place) → IsStretched Y (pos 0 -ℤ pos n) (pos n +ℤ pos 1) mid p → IsNearby 2 n ps p
 near_from_y n ps mid region p h =
     let before = (region.members h.origin).0 h.member in
@@ -177,7 +178,7 @@ y_from_near n ps mid region p h =
       is = same_place _ _ (omega (arith, ints)) (omega (arith, ints)) (omega (arith, ints));
     }
 
--- the run along the third axis, applied to what is near the list on the first two axes, has exactly the positions near the list on all three
+-- mid is what is near the list on two axes: each position of its run along the third is near the list on all three; `z_from_near` is the converse
 pub near_from_z : (n : ℕ) (ps mid : List Place) → IsRegionOf (IsNearby 2 n ps) mid → (p : Place) → IsStretched Z (pos 0 -ℤ pos n) (pos n +ℤ pos 1) mid p → IsNearby 3 n ps p
 near_from_z n ps mid region p h =
     let before = (region.members h.origin).0 h.member in
@@ -249,7 +250,7 @@ far_coordinate : (x : ℤ) (n : ℕ) → 1048576 < n → (c : ℤ) × IsUpTo n (
 far_coordinate (pos a) n far = (pos a +ℤ pos n, record { low = omega (arith, ints); high = omega (arith, ints) }, λ near. absurd (let high = near.1 in omega (arith, ints)))
 far_coordinate (negsuc a) n far = (negsuc a -ℤ pos n, record { low = omega (arith, ints); high = omega (arith, ints) }, λ near. absurd (let low = near.0 in omega (arith, ints)))
 
--- if n is over 2^20, some position within n of a member is out of range
+-- if the list isn't empty and n is over 2^20, some position near the list on the first axis is out of range
 pub far_leaves : (n : ℕ) (ps : List Place) → (ps ≡ [] → ⊥) → 1048576 < n → LeavesRange (IsNearby 1 n ps)
 far_leaves n [] some far = absurd (some refl)
 far_leaves n (q ∷ ps) some far =

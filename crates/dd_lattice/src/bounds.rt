@@ -25,7 +25,7 @@ impl Model for Box3 {
     ghost inverse = { λ b. record { low = b.low; high = b.high } };
 }
 
-/// The greatest coordinate of the centred box of this radius on this axis. The axes are numbered from 0.
+/// The greatest coordinate of the centred box of this radius on this axis. The axes are numbered from 0. See `centred_box`.
 fn spread(axis: u32, dim: u32, radius: i32) -> i32
     requires { pos 0 ≤ℤ radius }
     ensures value { result ≡ pos (spread (nat_lt axis dim) (unsigned_abs radius)) }
@@ -54,7 +54,7 @@ fn around_origin(dim: u32, radius: u32) -> Box3
 }
 
 /// The centred box of this radius: all positions whose first `dim` coordinates are at most `radius` in absolute value and whose
-/// other coordinates are 0. `None` if the radius exceeds 2^20.
+/// other coordinates are 0. `dim` is 1, 2 or 3. `None` if the radius exceeds 2^20.
 pub fn centred_box(dim: u32, radius: u32) -> Option<Box3>
     requires least { 1 ≤ dim }
     requires most { dim ≤ 3 }
@@ -177,7 +177,7 @@ impl Box3 {
     }
 }
 
-/// The position that is `x`, `y` and `z` steps above `low` on the three axes. It isn't above `high` on any axis.
+/// The position that is `x`, `y` and `z` steps above `low` on the three axes. It must not be above `high` on any axis.
 fn raised(low: &Position, high: &Position, x: u64, y: u64, z: u64) -> Position
     requires { IsAtMostOnEachAxis (place (low.now.x +ℤ pos x) (low.now.y +ℤ pos y) (low.now.z +ℤ pos z)) high.now }
     ensures { result ≡ place (low.now.x +ℤ pos x) (low.now.y +ℤ pos y) (low.now.z +ℤ pos z) }
@@ -189,7 +189,7 @@ fn raised(low: &Position, high: &Position, x: u64, y: u64, z: u64) -> Position
     }
 }
 
-/// The coordinate that is `by` steps above `low`. It isn't above `high`.
+/// The coordinate that is `by` steps above `low`. It must not be above `high`.
 fn coordinate(low: i32, high: i32, by: u64) -> i32
     requires low_near { IsCoordinateInRange low }
     requires high_near { IsCoordinateInRange high }

@@ -1,6 +1,6 @@
 //! The growth of a region, axis by axis. A run of n copies is the union of n copies of the region, each moved one step further
-//! along an axis than the one before. The union of such a run and the same run moved by n steps is a run of 2n copies. Growth
-//! by r is a run of 2r + 1 copies along each axis, and so takes about log r unions there.
+//! along an axis than the one before. The union of such a run and the same run moved by n steps is a run of 2n copies. To grow
+//! a region by r, the code makes a run of 2r + 1 copies along one axis after another. Each run takes about log r unions.
 ghost use Rattle.std.specs.Prelude.{◌≡◌, ◌+◌, ◌*◌, ◌≤◌, ℤ, pos, ◌-ℤ◌, ◌+ℤ◌, ◌≤ℤ◌, MatchResult};
 ghost use Rattle.dd_lattice.specs.Place.{most_coordinate};
 ghost use Rattle.dd_lattice.specs.Regions.{IsRegionOf, IsFaultOf, IsNearby};
@@ -94,7 +94,7 @@ fn grown(alloc: Global, region: &Region, dim: u32, by: u32) -> Result<Region, La
 
 impl Region {
     /// All positions whose distance from some member of the region is at most `by` on each of the first `dim` axes, and 0 on
-    /// the others. The fault is `Range` if a coordinate would exceed 2^20 in absolute value.
+    /// the others. `dim` is 1, 2 or 3. The fault is `Range` if a coordinate would exceed 2^20 in absolute value.
     pub fn grow(&self, alloc: Global, dim: u32, by: u32) -> Result<Region, LatticeFault>
         requires least { 1 ≤ dim }
         requires most { dim ≤ 3 }

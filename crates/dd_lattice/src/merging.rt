@@ -42,7 +42,7 @@ fn next_of(left: &Position, right: &Position) -> Step
     }
 }
 
-/// The positions of both lists, each once, in cell order.
+/// The positions that are in at least one of the two lists, each once, in cell order. Each list must be strictly ascending.
 pub fn merged(
     alloc: Global,
     left: &[Position],

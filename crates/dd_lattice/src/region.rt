@@ -1,4 +1,4 @@
-//! Regions: finite sets of positions, kept as strictly ascending lists.
+//! Regions: finite sets of positions, kept as lists that are strictly ascending in cell order.
 ghost use Rattle.std.specs.Prelude.{◌≡◌, ◌<◌, ◌≤◌, IfOk, IsTrue, ◌↔◌, MatchResult, map, []};
 ghost use Rattle.std.specs.List.{Contains};
 ghost use Rattle.dd_lattice.specs.Place.{IsInRange, moved};

@@ -1,4 +1,4 @@
--- The guarded formula is a formula over its topology and symbols, if it isn't too deep.
+-- The guarded formula of a well-formed formula is well formed too, if it isn't too deep.
 use Rattle.std.proofs.Common.{◌≡◌, ◌<◌, ℕ, Bool, true, List, [], ◌∷◌, map, ap, sym, ◌∙◌, arith}
 use Rattle.std.proofs.lemmas.{Bool.and_from, Bool.lt-ltb, List.Folds.list_all-map}
 use Rattle.std.specs.{Prelude.◌||◌, Prelude.not, Prelude.nat_lt, List.list_all, List.filter, List.range_with_len}

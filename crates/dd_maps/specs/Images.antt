@@ -46,11 +46,11 @@ AtEachNode n P v = (a : ℕ) → a < n → P (cell v a)
 abbrev pub Differ : ℕ → Automaton → Automaton → Look → Place → Type 0
 Differ n f g look v = AtSomeNode n (DifferAt f g look) v
 
--- the image breaks the rule at the position
+-- the image breaks the rule at one or more of the rule's nodes at the position
 abbrev pub ImageBreaks : Automaton → LocalRule → Look → Place → Type 0
 ImageBreaks f y look v = AtSomeNode y.nodes (BreaksAt f y look) v
 
--- applying g and then f changes the symbol of some cell of the position
+-- some cell of the position has no symbol, or applying g and then f changes its symbol
 abbrev pub Changes : ℕ → Automaton → Automaton → Look → Place → Type 0
 Changes n f g look v = AtSomeNode n (ChangesAt f g look) v
 

@@ -1,4 +1,4 @@
--- The guarded formula of a rule: the rule is true at a cell, and the cell's node allows its symbol. A cell's node is its number
+-- The guarded formula of a rule: the rule is true at a cell, and the cell has a symbol that its node allows. A cell's node is its number
 -- among the cells of its position.
 pub mod Guarded
 -- the automata of the pairs

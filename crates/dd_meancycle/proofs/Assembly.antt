@@ -36,7 +36,7 @@ rises_of edges n m l v end levels rows len h =
     let s : h.0 < length levels = omega (arith, h.2) in
     (h.0, h.1, h.2, sym (weight_row edges n levels h.0 v rows s) ∙ h.3, h.4)
 
--- if w / c is at most M / L, and this equals m / l, then w / c is at most m / l
+-- if w / c is at most M / L, and M / L equals m / l, then w / c is at most m / l
 scaled : (w c M L m l : ℕ) → 0 < L → M * l ≡ m * L → w * L ≤ M * c → w * l ≤ m * c
 scaled w c M L m l pos e h =
     le_of_mul-le-mul_right

@@ -115,7 +115,7 @@ pub same_weight : (g : Transfer) (edges es : List Edge) → IsTransfer g → Are
 same_weight g edges [] well are among = refl
 same_weight g edges (e ∷ es) well are among = omega (arith, (edged g edges e well are among.0).weight_is, same_weight g edges es well are among.1)
 
--- how much potentials rise, and ranks fall, along a path
+-- along a path of j edges and the weight w, the potential rises by at most l * w - m * j
 pub path_weighs : (g : Transfer) (m l : ℕ) (ps : List ℤ) → ArePotentials g m l ps → (ss : List ℕ) (u v : ℕ) → IsPath g u ss v →
     ((potential_of ps v -ℤ potential_of ps u) ≤ℤ (pos (l * weight_of g ss) -ℤ pos (m * length ss)))
 path_weighs g m l ps given [] u v walk =
@@ -130,6 +130,7 @@ path_weighs g m l ps given (s ∷ ss) u v walk =
 pub cycle_least : (g : Transfer) (m l : ℕ) (ps : List ℤ) → ArePotentials g m l ps → (ss : List ℕ) → IsCycle g ss → m * length ss ≤ l * weight_of g ss
 cycle_least g m l ps given ss is = let w = path_weighs g m l ps given ss is.last is.last is.closed in omega (arith, ints, w)
 
+-- along a path, the rank falls by at least the number of edges
 pub path_falls : (g : Transfer) (ranks : List ℕ) → AreRanks g ranks → (ss : List ℕ) (u v : ℕ) → IsPath g u ss v → get_or ranks v 0 + length ss ≤ get_or ranks u 0
 path_falls g ranks given [] u v walk = let e : get_or ranks v 0 ≡ get_or ranks u 0 = ap (λ (x : ℕ). get_or ranks x 0) (sym walk) in omega (arith, e)
 path_falls g ranks given (s ∷ ss) u v walk =
@@ -148,7 +149,8 @@ walk_light n edges (e ∷ es) all among =
     let rest = walk_light n edges es all among.1 in
     omega (arith, first, rest)
 
--- m * n is at most l * 2^25, and so at most 2^40, as l is at most 4096
+-- Let c edges of the weight w in all have the mean m / l, and let n * w be at most c * 2^25. Then m * n is at most l * 2^25, and so at most 2^40, as
+-- l is at most 4096.
 numerator_small : (n w m l c : ℕ) → 0 < c → w * l ≡ m * c → n * w ≤ c * 2 ^ 25 → l ≤ n → n ≤ 4096 → m * n ≤ 2 ^ 40
 numerator_small n w m l c some mean light short few =
     let a : (n * w) * l ≤ (c * 2 ^ 25) * l = mul-le-mul_right l light in

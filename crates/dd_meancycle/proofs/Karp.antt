@@ -20,7 +20,8 @@ at_most : (o : Option ℕ) (x y : ℕ) → o ≡ Some y → y ≤ x → IsAtMost
 at_most None x y e h = absurd (cc)
 at_most (Some z) x y e h = let f : z ≡ y = cc in omega arith
 
--- the table's entry for a walk's end is at most its entry for the walk's start plus the weight of the walk
+-- Let a walk of j edges start at a state with a weight in the row k. Then its last state has a weight in the row k + j, which is at most the first
+-- weight plus the weight of the walk.
 pub walk_upper : (edges : List Edge) (n k : ℕ) (es : List Edge) (u v a : ℕ) → All (IsEdgeOf n) edges → AreAmong edges es → IsWalk u es v → least edges n k u ≡ Some a → IsAtMost (least edges n (k + length es) v) (a + edges_weight es)
 walk_upper edges n k [] u v a all among walk is =
     let e : k + 0 ≡ k = omega arith in
@@ -36,7 +37,8 @@ walk_upper edges n k (x ∷ es) u v a all among walk is =
 abbrev pub IsAbove : List Edge → ℕ → ℕ → ℕ → ℕ → ℕ → Type 0
 IsAbove edges n v end m l = (k before : ℕ) → k < n → least edges n k v ≡ Some before → end * l ≤ before * l + m * (n - k)
 
--- if no rise of v to the weight `end` has a mean above m / l, the mean of a cycle on a longest walk to v of this weight is at most m / l
+-- Let a longest walk to v have the weight `end` and pass through a cycle. If no rise of v to this weight has a mean above m / l, the mean of the
+-- cycle is at most m / l.
 pub cycle_light : (edges : List Edge) (n i x v a end m l : ℕ) (cycle rest : List Edge) → All (IsEdgeOf n) edges →
     AreAmong edges rest → IsWalk x rest v → least edges n i x ≡ Some a → 0 < length cycle → (i + length cycle) + length rest ≡ n →
     (a + edges_weight cycle) + edges_weight rest ≡ end → IsAbove edges n v end m l → edges_weight cycle * l ≤ m * length cycle

@@ -1,4 +1,4 @@
--- Steps of the loops.
+-- Steps of the loops over edges, levels and states, and bounds on the entries of the table.
 use Rattle.std.proofs.Common.{◌≡◌, ℕ, zero, suc, ◌+◌, ◌-◌, ◌*◌, ◌<◌, ◌≤◌, ◌^◌, Bool, true, false, cond, List, [], ◌∷◌, ◌++◌, length, get_or, take, Option, Some, None, arith, refl, sym, ap, ◌∙◌, subst, inl, inr, add-one}
 use Rattle.std.proofs.lemmas.Bool.{cases_Bool, cases_lt, cases_eq}
 use Rattle.std.proofs.lemmas.List.{get_or_append_left, get_or_push, length-append, get_or_default, get_or-replicate, get_or_past, length-replicate}
@@ -65,7 +65,7 @@ row_up edges n k v all pos most = up_from (2 ^ 31) (least edges n k v) (λ b e.
     let few : b ≤ 2 ^ 25 = le_of_mul-le-mul_right turned pos in
     omega arith)
 
--- one step of the loop of `steepest`
+-- one step of the loop of `steepest`: after it, the best mean is an upper bound for the means of the rises from the levels up to k
 steep_at : (W : ℕ → Option ℕ) (best r : Ratio) (end last k : ℕ) (o : Option ℕ) → W k ≡ o → 0 < best.length → IsSteeper best end o (last - k) r →
     ((j b : ℕ) → j < k → W j ≡ Some b → end * best.length ≤ b * best.length + best.weight * (last - j)) →
     (j b : ℕ) → j < k + 1 → W j ≡ Some b → end * r.length ≤ b * r.length + r.weight * (last - j)

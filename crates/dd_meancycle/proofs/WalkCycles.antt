@@ -51,8 +51,8 @@ marked_below (Some x ∷ seen) zero lt none = absurd (cc)
 marked_below (Some x ∷ seen) (suc i) lt none = omega (arith, marked_below seen i (omega arith) none)
 
 -- A trail: the last `step` edges of a walk of n edges to v, followed back from v. The walk has the weight `end`. `path` holds these edges, the last
--- one first. They lead back to the state `here`, which the trail passes for the first time. A lightest walk of the other n - step edges to `here` has
--- the weight `weight`. For each state that the trail passed before, `seen` holds the state's place on the path.
+-- one first. They lead back to the state `here`, to which the trail comes for the first time. A lightest walk of n - step edges to `here` has the
+-- weight `weight`. For each state that the trail passed before, `seen` holds how many edges had been followed when the trail came to it.
 pub record Trail (edges : List Edge) (n v end step here weight : ℕ) (path : List Edge) (seen : List (Option ℕ)) : Type 0 where
   pub walk : IsWalk here (reverse path) v
   pub among : AreAmong edges (reverse path)
@@ -85,7 +85,7 @@ trail_start edges n v end seen lt s h = record {
 pub trail_end : (edges : List Edge) (n v end step here weight : ℕ) (path : List Edge) (seen : List (Option ℕ)) → n ≤ step → Trail edges n v end step here weight path seen → ⊥
 trail_end edges n v end step here weight path seen le t = omega (arith, marked_below seen here (omega (arith, t.width, t.in_range)) t.fresh, t.count, t.width)
 
--- the edge e leads to the state `here`, and a walk that it ends has the weight `weight`; `before` is the row of the walks that are one edge shorter
+-- the edge e leads to the state `here`, and a lightest walk of the row `before` to the source of e, followed by e, has the weight `weight`
 pub record IsBack (edges : List Edge) (before : List (Option ℕ)) (here weight : ℕ) (e : Edge) : Type 0 where
   pub is_in : Contains edges e
   pub to : e.to ≡ here

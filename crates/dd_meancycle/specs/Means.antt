@@ -6,7 +6,7 @@ use Rattle.dd_values.specs.Bounds.{most_number}
 use Rattle.dd_transfer.specs.{Graphs.Transfer, Graphs.next_of, Graphs.weight_at, Certificates.potential_of}
 use Rattle.dd_meancycle.specs.declared.least.Mean.{Mean, TheVariants.Least, TheVariants.NoCycle}
 
--- u and then these states are a walk from u to v: each state has an edge to the next, and the last is v
+-- a walk from u through these states to v: each state has an edge to the next, and the last is v
 abbrev pub IsPath : Transfer → ℕ → List ℕ → ℕ → Type 0
 IsPath g u [] v = u ≡ v
 IsPath g u (s ∷ ss) v = (next_of g u (s % g.slices) ≡ Some s) × IsPath g s ss v
@@ -31,7 +31,8 @@ ArePotentials g m l ps = (u t v : ℕ) → next_of g u t ≡ Some v → (potenti
 abbrev pub AreRanks : Transfer → List ℕ → Type 0
 AreRanks g ranks = (u t v : ℕ) → next_of g u t ≡ Some v → slice_index ranks v < slice_index ranks u
 
--- the cycle's mean is m / l in lowest terms, and the potentials show that no cycle has a smaller mean
+-- The cycle's mean is m / l in lowest terms, and the potentials show that no cycle has a smaller mean. The cycle has at most as many states as the
+-- graph, and the potentials are small enough for an output.
 pub record IsLeastMeanCycle (g : Transfer) (m l : ℕ) (cycle : List ℕ) (ps : List ℤ) : Type 0 where
   pub cycle_is : IsCycle g cycle
   pub short : length cycle ≤ g.states

@@ -1,5 +1,5 @@
-//! The exact check of what a search found: a cycle and potentials, which show the least mean of a graph's cycles, or ranks,
-//! which show that there is no cycle.
+//! The exact check of what a search found. This is either a cycle with potentials, which show that its mean is the least, or
+//! ranks, which show that there is no cycle.
 ghost use Rattle.std.specs.Prelude.{◌≡◌, ℕ, ◌*◌, ◌%◌, ◌<◌, ◌≤◌, ◌↔◌, IsTrue, IfSome, length, slice_index, pos, ◌-ℤ◌, ◌≤ℤ◌, unsigned_abs, nat_le, Some};
 ghost use Rattle.std.specs.List.{All, list_all};
 ghost use Rattle.dd_values.specs.Bounds.{most_number};
@@ -15,7 +15,7 @@ use dd_transfer::Graph;
 use dd_values::MOST_NUMBER;
 
 /// Whether an edge leads from `from` to `to`. The slice of each edge to `to` is the last slice of `to`, so only this slice is
-/// tried.
+/// tried. Its number is `to` modulo the number of slices.
 fn leads(graph: &Graph, from: u32, to: u32) -> bool
     ensures value { IsTrue result ↔ (next_of graph.now from (to % graph.now.slices) ≡ Some to) }
     ensures kept { IsTransfer graph.now }
@@ -96,8 +96,9 @@ fn are_bounded(potentials: &[i64]) -> bool
     potentials.iter().all(|potential| is_bounded(potential))
 }
 
-/// The mean of the cycle in lowest terms, if the cycle and the potentials show that no cycle has a smaller mean. `None` if they
-/// don't, if the cycle has more states than the graph, or if a potential is too great for an output.
+/// The mean of the cycle in lowest terms, if the potentials show that no cycle has a smaller mean. Returns `None` if they
+/// don't, if the states don't form a cycle or are more than the graph has, if there isn't one potential for each state, or if a
+/// potential is too great for an output.
 pub(crate) fn confirmed(
     graph: &Graph,
     edges: &[Edge],

@@ -20,17 +20,17 @@ use std::alloc::{AllocError, Global};
 /// which show that there is no cycle.
 #[derive(Debug, Drop)]
 pub enum Mean {
-    /// The mean is `numerator / denominator` in lowest terms. The cycle is a list of states, at most as many as the graph has.
-    /// Each has an edge to the next, and the last has an edge to the first. There is one potential for each state, listed in
-    /// the order of the states' numbers, and it is at most 2^40 in absolute value. Along each edge the potential rises by at
-    /// most `denominator * weight - numerator`, where `weight` is the weight of the edge.
+    /// The mean is `numerator / denominator` in lowest terms. The cycle is a list of states, at least one and at most as many
+    /// as the graph has. Each has an edge to the next, and the last has an edge to the first. There is one potential for each
+    /// state, in the order of the states' numbers. Each potential is at most 2^40 in absolute value. Along each edge the
+    /// potential rises by at most `denominator * weight - numerator`, where `weight` is the weight of the edge.
     Least {
         numerator: u64,
         denominator: u64,
         cycle: Items<u32>,
         potentials: Items<i64>,
     },
-    /// One rank for each state, listed in the order of the states' numbers. The rank falls along each edge.
+    /// One rank for each state, in the order of the states' numbers. The rank falls along each edge.
     NoCycle {
         ranks: Items<u32>,
     },
@@ -55,7 +55,7 @@ fn signed(alloc: Global, potentials: &[u64]) -> Result<Vec<i64>, AllocError>
     Ok(numbers)
 }
 
-/// The same result, with the cycle given by its states, and with signed potentials.
+/// The result `mean`, but with the cycle given by its states, and with potentials as signed numbers.
 fn in_states(alloc: Global, mean: EdgeMean) -> Result<Mean, AllocError>
     requires { IsSmallMean mean }
     ensures { IfOk result (λ m. IsInStates mean m) }
@@ -96,7 +96,7 @@ pub fn least_mean(alloc: Global, graph: &Graph) -> Result<Mean, AllocError>
     }
 }
 
-/// The result of the searches, if the exact check confirms it.
+/// The result of the searches, or `None` if the exact check doesn't confirm it.
 fn sought_mean(alloc: Global, graph: &Graph, edges: &[Edge]) -> Result<Option<Mean>, AllocError>
     requires { AreEdges graph.now edges.now }
     ensures { IfOk result (λ found. IfSome found (IsMeanOf graph.now)) }
@@ -110,7 +110,7 @@ fn sought_mean(alloc: Global, graph: &Graph, edges: &[Edge]) -> Result<Option<Me
     }
 }
 
-/// `NoCycle`, if the exact check confirms the ranks.
+/// `NoCycle` with the ranks, or `None` if the exact check doesn't confirm them.
 fn confirmed_ranks(graph: &Graph, edges: &[Edge], ranks: Items<u32>) -> Option<Mean>
     requires { AreEdges graph.now edges.now }
     ensures { IfSome result (IsMeanOf graph.now) }
@@ -122,7 +122,7 @@ fn confirmed_ranks(graph: &Graph, edges: &[Edge], ranks: Items<u32>) -> Option<M
     }
 }
 
-/// The cycle and the potentials, if the exact check confirms them.
+/// `Least` with the cycle and the potentials, or `None` if the exact check doesn't confirm them.
 fn confirmed_mean(graph: &Graph, edges: &[Edge], found: Found) -> Option<Mean>
     requires { AreEdges graph.now edges.now }
     ensures { IfSome result (IsMeanOf graph.now) }
@@ -137,7 +137,8 @@ fn confirmed_mean(graph: &Graph, edges: &[Edge], found: Found) -> Option<Mean>
     })
 }
 
-/// The least mean, found from the table of least weights. This is slower than the searches, but needs no check.
+/// A cycle of least mean with potentials, or ranks, read off the table of least weights. This is slower than the searches, but
+/// needs no check.
 fn mean_over(alloc: Global, graph: &Graph, edges: &[Edge]) -> Result<Mean, AllocError>
     requires edges { AreEdges graph.now edges.now }
     ensures { IfOk result (IsMeanOf graph.now) }

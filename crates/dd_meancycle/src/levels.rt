@@ -23,7 +23,7 @@ impl Model for Level {
     ghost view = { λ l. l.least.items };
 }
 
-/// The smaller of the best weight so far, if there is one, and the weight `here`.
+/// The smaller of the weight `here` and the best weight so far. If there is none so far, the result is `here`.
 fn lower(best: Option<u32>, here: u32) -> u32
     ensures { Some result ≡ lowered best here }
 {

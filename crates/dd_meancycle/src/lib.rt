@@ -1,11 +1,15 @@
-//! The least mean of the cycles of a transfer graph (see `dd_transfer`). A state of this graph consists of slices. An edge
-//! drops a state's first slice, appends a slice, and weighs what the appended slice weighs. A cycle is a closed walk, and its
-//! mean is its weight divided by its number of edges. A cycle with the mean m / l, and a potential for each state, show that
-//! m / l is the least mean: along each edge of weight w, the potential rises by at most l * w - m. If there is no cycle, a rank
-//! for each state shows this: the rank falls along each edge.
+//! The least mean of the cycles of a transfer graph (see `dd_transfer`). A slice of a strip gives a symbol to each cell at one
+//! value of x. A state of the graph consists of consecutive slices. An edge leads from a state to the state that results if the
+//! first slice is dropped and a slice is appended. The edge weighs what the appended slice weighs. A cycle is a closed walk of
+//! at least one edge, and its mean is its weight divided by its number of edges.
 //!
-//! `least_mean` first searches for these, and checks what it finds. If the check fails, it reads them off a table of the least
-//! weights of walks of each length (Karp 1978), which is slower.
+//! Suppose that a cycle has the mean m / l, and that each state has a number, its potential, which rises by at most l * w - m
+//! along each edge of weight w. Then m / l is the least mean, since the rises along a cycle add up to 0. If there is no cycle,
+//! ranks show this. They are natural numbers, one for each state, and the rank falls along each edge.
+//!
+//! `least_mean` first searches for a cycle of least mean and potentials, or for ranks, and checks what it finds. If the check
+//! fails, it reads them off a table, which is slower. For each length and each state, this table has the least weight of a walk
+//! of this length to this state (Karp 1978).
 #![tactic(auto, using(std::proofs::lemmas::Grind::common_steps))]
 
 mod confirming;

@@ -1,5 +1,6 @@
-//! Ranks for a graph without a cycle, after A. B. Kahn (1962): a state is removed, with its edges, once no edge leads to it
-//! any more. The result is checked afterwards, so no contract says what it is.
+//! Ranks for a graph without a cycle, after A. B. Kahn (1962). A state is removed, with the edges that lead from it, once no
+//! edge leads to it any more. The earlier a state is removed, the greater is its rank. The result is checked afterwards, so no
+//! contract says what it is.
 
 use crate::edges::Edge;
 use dd_values::Items;
@@ -32,7 +33,7 @@ fn is_last_to(edge: &Edge, degrees: &mut [u32]) -> bool {
     *degree == 0
 }
 
-/// Counts the edges as removed, and appends the states to which no edge leads any more.
+/// Counts the edges as removed. Each state that loses the last edge to it is appended to `order`.
 fn take_off(edges: &[Edge], degrees: &mut [u32], order: &mut Vec<u32>) -> Result<(), AllocError> {
     for edge in edges {
         if is_last_to(edge, degrees) {
@@ -67,7 +68,8 @@ fn in_order(alloc: Global, states: u32, edges: &[Edge]) -> Result<Vec<u32>, Allo
     Ok(order)
 }
 
-/// A rank for each state, which should fall along each edge; or `None` if the graph has a cycle.
+/// A rank for each state, or `None` if the graph has a cycle. The rank should fall along each edge. The edges must be sorted by
+/// the states from which they lead.
 pub(crate) fn sought_ranks(
     alloc: Global,
     states: u32,

@@ -1,8 +1,8 @@
-//! What is read off the table of least weights: the least mean, potentials and ranks. The level `k` of the table is its row
-//! for walks of `k` edges, and `last` is its last level. A rise of a state goes from its entry in some level `k` below
-//! `last` to its entry in the level `last`. The mean of the rise is the second entry less the first, divided by `last - k`.
-//! Take the greatest mean of a rise for each state to which a walk of `last` edges leads. The least of these is the least
-//! mean of a cycle (Karp 1978).
+//! What is read off the table of least weights: the least mean, potentials and ranks. The level `k` of the table is its row for
+//! walks of `k` edges, and `last` is the table's last level. A rise of a state goes from the state's entry in some level `k`
+//! below `last` to its entry in the level `last`; neither entry is `None`. The mean of the rise is the second entry less the
+//! first, divided by `last - k`. Take the greatest mean of a rise for each state to which a walk of `last` edges leads. The
+//! least of these is the least mean of a cycle (Karp 1978).
 ghost use Rattle.std.specs.Prelude.{◌≡◌, ℕ, ◌-◌, ◌*◌, ◌<◌, ◌≤◌, ◌^◌, length, IfOk, slice_index_or, MatchOption, ⊤, Option, None};
 ghost use Rattle.std.specs.Int.{IsGcd};
 ghost use Rattle.dd_meancycle.specs.table.Levels.{level_weight_at};
@@ -37,8 +37,8 @@ fn steepest(levels: &[Level], last: usize, state: u32) -> Option<Ratio>
     Some(best)
 }
 
-/// The greater of two means: `best`, and the mean of the rise from `before` to `end` over `run` edges. `best` if `before` is
-/// `None`.
+/// The greater of two means: `best`, and the mean of the rise from `before` to `end` over `run` edges. If `before` is `None`,
+/// the result is `best`.
 fn steeper(best: Ratio, end: u32, before: Option<u32>, run: u64) -> Ratio
     requires run { run < 2 ^ 31 }
     requires weight { best.weight < 2 ^ 32 }
@@ -77,8 +77,8 @@ fn potential(levels: &[Level], last: usize, state: u32, mean: Ratio) -> u64
     best
 }
 
-/// The smaller of `best` and `mean.length * before + mean.weight * run`. The entry `before` is `run` levels below the last.
-/// `best` if this entry is `None`.
+/// The smaller of `best` and `mean.length * before + mean.weight * run`. The entry `before` is `run` levels below the last. If
+/// it is `None`, the result is `best`.
 fn lesser(best: u64, before: Option<u32>, mean: Ratio, run: u64) -> u64
     requires run { run < 2 ^ 31 }
     requires weight { mean.weight < 2 ^ 32 }
@@ -97,7 +97,8 @@ pub(crate) struct Steep {
 }
 
 /// Compares the state in `best` with `state`, for which the greatest mean of a rise is `here`. Returns the one for which this
-/// greatest mean is smaller. If `here` is `None`, this is `best`; else, if `best` is `None`, it is `state`.
+/// greatest mean is smaller, and `best` if the two means are equal. If `here` is `None`, the result is `best`; else, if `best`
+/// is `None`, it is `state`.
 fn gentler(best: Option<Steep>, state: u32, here: Option<Ratio>) -> Option<Steep>
     requires best { MatchOption best ⊤ (λ b. (b.mean.weight < 2 ^ 32) × (b.mean.length < 2 ^ 31)) }
     requires here { MatchOption here ⊤ (λ h. (h.weight < 2 ^ 32) × (h.length < 2 ^ 31)) }
@@ -195,7 +196,7 @@ fn height(levels: &[Level], last: usize, state: u32) -> usize
     height
 }
 
-/// A rank for each state: `last` less the state's height.
+/// A rank for each state: `last` less the state's height. If no walk has `last` edges, the rank falls along each edge.
 pub(crate) fn ranks(
     alloc: Global,
     levels: &[Level],

@@ -1,7 +1,9 @@
-//! The search for a cycle of least mean and for potentials (after E. Lawler, 1976). For the mean of the last cycle that it
-//! found, it lowers potentials along the edges, in rounds over all edges, until none can be lowered. For each state, the last
-//! edge along which its potential was lowered is marked. If marked edges form a cycle after a round, this cycle has a smaller
-//! mean, and the search starts again with it. The result is checked afterwards, so no contract says what it is.
+//! The search for a cycle of least mean and for potentials (after E. Lawler, 1976). Let m / l be the mean of the last cycle
+//! that was found; at first it is a number above the mean of each cycle. All potentials are 0 at first. If the potential rises
+//! by more than l * w - m along an edge of weight w, the potential of the edge's target is lowered so that the rise is just
+//! this much. This is done in rounds over all edges until no potential can be lowered. For each state, the last edge along
+//! which its potential was lowered is marked. If marked edges form a cycle after a round, this cycle has a mean below m / l,
+//! and the search starts again with its mean. The result is checked afterwards, so no contract says what it is.
 
 use crate::edges::Edge;
 use crate::rises::{Ratio, reduced};
@@ -31,8 +33,8 @@ const STEEPEST: Slope = Slope {
     length: 1,
 };
 
-/// Lowers potentials along the edges. For each state, `parents` marks the last edge along which the state's potential was
-/// lowered. Returns whether some potential was lowered.
+/// One round: lowers potentials along the edges, one edge after another. For each state, `parents` holds its marked edge, the
+/// last one along which the state's potential was lowered. Returns whether some potential was lowered.
 fn lower_all(
     edges: &[Edge],
     slope: Slope,
@@ -46,7 +48,9 @@ fn lower_all(
     lowered
 }
 
-/// Lowers the potential of the edge's target if the potential rises too much along the edge. Returns whether it was lowered.
+/// If the potential rises along the edge by more than `slope.length * weight - slope.weight`, where `weight` is the weight of
+/// the edge, lowers the potential of the edge's target so that the rise is just this much, and marks the edge. Returns whether
+/// it did.
 fn lower_along(
     edge: &Edge,
     slope: Slope,
@@ -81,8 +85,8 @@ fn parent(parents: &[Option<Edge>], state: u32) -> Option<Edge> {
     }
 }
 
-/// A state on a cycle of marked edges, if there is one. From each state with a marked edge to it, a walk goes back along marked
-/// edges. `seen` holds, for each state, the number of the walk that passed it, or 0.
+/// A state on a cycle of marked edges, or `None` if there is no such cycle. From each state with a marked edge to it, a walk
+/// goes back along marked edges. For each state, `seen` holds the number of the walk that passed it, or 0 if none did.
 fn state_on_cycle(alloc: Global, parents: &[Option<Edge>]) -> Result<Option<u32>, AllocError> {
     let mut seen = vec![in alloc; 0u32; parents.len()]?;
     let mut mark = 0;
@@ -101,8 +105,8 @@ fn state_on_cycle(alloc: Global, parents: &[Option<Edge>]) -> Result<Option<u32>
 }
 
 /// Walks back along marked edges from a state. `mark` is the number of this walk. Returns the first state to which the walk
-/// comes for the second time. `None` if, before that, it comes to a state without a marked edge or to one that an earlier
-/// walk has passed.
+/// comes for the second time. Returns `None` if, before that, the walk comes to a state without a marked edge or to one that an
+/// earlier walk has passed.
 fn follow(parents: &[Option<Edge>], seen: &mut [u32], state: u32, mark: u32) -> Option<u32> {
     let mut at = state;
     for _ in 0..parents.len() + 1 {
@@ -147,7 +151,7 @@ fn cycle_through(
     Ok((states, slope_of(weight, length)))
 }
 
-/// The mean `weight / length` in lowest terms, as the exact check uses it. `STEEPEST` if the length is 0.
+/// The mean `weight / length` in lowest terms, as the exact check uses it. If the length is 0, the result is `STEEPEST`.
 fn slope_of(weight: u64, length: u64) -> Slope {
     if length == 0 {
         return STEEPEST;

@@ -1,5 +1,5 @@
-//! A cycle on a lightest walk of the table's greatest length. Such a walk has as many edges as there are states, so it comes
-//! to some state at least twice.
+//! A cycle on a lightest walk of the greatest length in the table of least weights. Such a walk has as many edges as there are
+//! states, so it comes to some state at least twice.
 ghost use Rattle.std.specs.Prelude.{◌≡◌, ℕ, ◌+◌, ◌<◌, ◌≤◌, ◌^◌, length, IfOk, replicate, reverse, Some, None, drop};
 ghost use Rattle.std.specs.List.{All, find};
 ghost use Rattle.dd_meancycle.specs.table.Levels.{IsEdgeOf, AreRows, level_weight_at};
@@ -9,7 +9,8 @@ use crate::edges::Edge;
 use crate::levels::{Level, row_of, weight_at};
 use std::alloc::{AllocError, Global};
 
-/// Whether a lightest walk of the level `before`, followed by the edge, leads to the state and has the weight `weight`.
+/// Whether a lightest walk of the level `before` to the edge's source, followed by the edge, leads to the state and has the
+/// weight `weight`.
 fn is_back(before: &[Option<u32>], state: u32, weight: u32, edge: &Edge) -> bool
     requires { edge.now.from < length before.now }
     ensures { result ≡ is_back before.now state weight edge.now }
@@ -23,8 +24,7 @@ fn is_back(before: &[Option<u32>], state: u32, weight: u32, edge: &Edge) -> bool
     }
 }
 
-/// An edge that extends a lightest walk of the level `before` to a walk of the weight `weight` to the state, or `None` if
-/// there is no such edge.
+/// The first edge for which `is_back` is true, or `None` if there is none.
 fn back_edge(edges: &[Edge], before: &[Option<u32>], state: u32, weight: u32) -> Option<Edge>
     requires edges { All (IsEdgeOf (length before.now)) edges.now }
     ensures { result ≡ find (is_back before.now state weight) edges.now }
@@ -44,8 +44,8 @@ fn reversed(alloc: Global, path: &[Edge]) -> Result<Vec<Edge>, AllocError>
     path.iter().rev().copied().collect(alloc)
 }
 
-/// The edges of the path from the place `start` on, in the opposite order. The path runs backwards, so they are a forward
-/// walk.
+/// The edges of the path from the place `start` on, in the opposite order. The path lists the edges of a walk from its last
+/// edge back to its first, so the result is a walk.
 fn cycle_from(alloc: Global, path: &[Edge], start: usize) -> Result<Vec<Edge>, AllocError>
     requires { start ≤ length path.now }
     ensures { IfOk result (λ v. v.items ≡ reverse (drop start path.now)) }
@@ -54,8 +54,8 @@ fn cycle_from(alloc: Global, path: &[Edge], start: usize) -> Result<Vec<Edge>, A
 }
 
 /// A cycle on a lightest walk of `last` edges to the state; empty if no walk of this length leads there. The walk is followed
-/// back from the state until it comes to some state for the second time. `path` holds the edges that have been followed so
-/// far. For each state that the path has passed, `seen` holds the state's place on the path.
+/// back from the state until it comes to some state for the second time. `path` holds the edges that have been followed so far.
+/// For each state that has been passed, `seen` holds how many edges had been followed when the walk first came to it.
 pub(crate) fn cycle_on_walk(
     alloc: Global,
     edges: &[Edge],
@@ -93,7 +93,7 @@ pub(crate) fn cycle_on_walk(
     Ok(path)
 }
 
-/// The list `seen` before the path has passed any state.
+/// The list `seen` before any state has been passed.
 fn unseen(alloc: Global, states: usize) -> Result<Vec<Option<usize>>, AllocError>
     ensures { IfOk result (λ r. r.items ≡ replicate states None) }
 {

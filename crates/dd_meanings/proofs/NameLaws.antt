@@ -12,7 +12,7 @@ pub is_found : (names : List (List ℕ)) (text : List ℕ) → is_some (number_o
 is_found [] text = refl
 is_found (n ∷ names) text = let others = is_found names text in grind (arith, common_steps, nat_tests)
 
--- names with the same number are the same
+-- two names in the list that have the same number are the same
 pub same_name : (names : List (List ℕ)) (a b : List ℕ) → is_some (number_of names a) ≡ true → is_some (number_of names b) ≡ true → unwrap_or (number_of names a) 0 ≡ unwrap_or (number_of names b) 0 → a ≡ b
 same_name names a b there there' same =
     let one = slice_get-number_of names a (unwrap_or (number_of names a) 0) (grind (arith, common_steps)) in

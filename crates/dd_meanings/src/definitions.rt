@@ -119,8 +119,9 @@ pub(crate) fn composition(
     }
 }
 
-/// What a definition of a configuration means: the configuration with these periods, this shear and these symbols. The shear is
-/// how far each repetition along the second axis is moved along the first.
+/// What a definition of a configuration means: the configuration with these periods, this shear and these symbols. The symbols
+/// fill a box whose sides are the periods, and copies of the box fill the lattice. The shear is how far each copy is moved
+/// along the first axis from the copy before it along the second axis.
 pub(crate) fn configuration(
     alloc: Global,
     context: &Context,

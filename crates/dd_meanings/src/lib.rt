@@ -3,6 +3,10 @@
 //! define rules, automata and configurations, and ask queries. A rule or an automaton is refused here if it has too many
 //! instances (roughly, the parts of its formulas once these are written without variables), reads a cell that is too far away,
 //! or is too deep (nests too many compositions).
+//!
+//! The context of a command has the text of the script and what is known: what the commands before it defined, with defaults
+//! for the rest. The setting is the part that formulas refer to: the nodes, the symbols, the topology, and which symbols each
+//! node allows.
 #![tactic(auto, using(crate::proofs::Nothing::parts))]
 
 mod atoms;

@@ -17,7 +17,7 @@ use std::alloc::Global;
 
 /// What a command without faults means. `automata` are the automata that were defined before it, in the order of their
 /// definitions. A command that defines a rule or an automaton is refused if the rule or automaton has too many instances, reads
-/// a cell that is too far away, or is too deep.
+/// a cell that is too far away, or is too deep. A command is also refused if memory runs out.
 pub fn mean(
     alloc: Global,
     context: &Context,

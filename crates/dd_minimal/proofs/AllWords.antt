@@ -16,7 +16,7 @@ use Rattle.dd_minimal.proofs.Lists.{of_map, range_within, of_filter, sorted_map}
 use Rattle.dd_values.specs.lemmas.Members.{Contains-cons_cases, sorted_append, Contains-map, Contains-first, Contains-nil}
 use Rattle.dd_values.specs.lemmas.Lists.{nothing_past, range_has, in_filter, of_part}
 
--- ---- the list has each word
+-- ---- the list has each word, and nothing else
 
 pub word_rest : (m n s : ℕ) (ss : List ℕ) → IsWord m (suc n) (s ∷ ss) → IsWord m n ss
 word_rest m n s ss w = record { as_many = (let many = w.as_many in omega (arith, many)); below = All-tail (λ t. t < m) s ss w.below }

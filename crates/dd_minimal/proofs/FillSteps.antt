@@ -11,7 +11,7 @@ use Rattle.dd_minimal.specs.finding.Outcomes.{outcome_behind, known_outcome, of_
 use Rattle.dd_minimal.proofs.AllWords.{words_are}
 use Rattle.dd_values.specs.lemmas.Lists.{flat_map_agree, map_agree, map_flat_map, range_more}
 
--- ---- tables of words, by their first symbols
+-- ---- a table with an entry for each word consists of parts, one for each first symbol
 
 mapped : {X Y Z : Type 0} (f : Y → Z) (h : X → Y) (xs : List X) → map f (map h xs) ≡ map (λ x. f (h x)) xs
 mapped f h [] = refl
@@ -84,6 +84,7 @@ all_settled r a e rest start begun truth value says below same is settled =
     sym (says (start ++ ss) symbols) ∙ (ap (λ qs. holds_in e (qs ++ ss)) (sym same) ∙ (settled ss ∙ is)) in
     ap (λ t. cond (are_allowed r rest ss) (of_truth t) Barred) (sym so))
 
+-- no cell is left, so the table has one entry
 pub leaf : (r : LocalRule) (a m : ℕ) (e : Numbered) (rest : List Cell) (start now : List ℕ) (truth : Bool) → SaysRule r a e → AreSymbols r start → length rest ≡ 0 → now ≡ start → truth ≡ holds_in e now →
     of_truth truth ∷ [] ≡ map (outcome_behind r a rest start) (words m (length rest))
 leaf r a m e [] start now truth says below none same is =
@@ -94,4 +95,4 @@ pub known_leaf : (r : LocalRule) (m : ℕ) (rest : List Cell) (o : Outcome) → 
 known_leaf r m [] o none = refl
 known_leaf r m (c ∷ cs) o none = absurd (omega (arith, none))
 
--- ---- a symbol that was appended is removed again
+-- The lemma `taken_off` of `dd_values` says that the symbols are the old ones again after an appended symbol is removed.

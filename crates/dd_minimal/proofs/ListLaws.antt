@@ -16,7 +16,7 @@ use Rattle.dd_values.specs.lemmas.{Booleans.or_left, Booleans.or_right, Lists.pa
 abbrev Patterns : Type 0
 Patterns = List (List (Option ℕ))
 
--- ---- what follows if all fillings that agree with a pattern break the rule
+-- ---- `all_break` is true exactly when every filling with allowed symbols that agrees with the pattern breaks the rule
 
 false_so : (g al t : Bool) → g ≡ true → al ≡ true → not (g && (al && t)) ≡ true → t ≡ false
 false_so true true true is ok h = absurd (false≢true h)

@@ -1,4 +1,4 @@
--- Tests and folds over the numbers below n, and how far strides reach.
+-- Folds over the numbers below n, and how far strides reach.
 use Rattle.std.proofs.Common.{◌≡◌, ◌<◌, ◌+◌, ◌-◌, ◌*◌, ℕ, zero, suc, Bool, true, false, List, [], ◌∷◌, ◌++◌, refl, sym, ◌∙◌, ap, arith}
 use Rattle.std.proofs.lemmas.{Bool.false≢true, Nat.mul-le}
 use Rattle.std.specs.List.{range_with_len, list_all, fold}

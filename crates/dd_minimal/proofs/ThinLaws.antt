@@ -45,7 +45,7 @@ whole_only (s ∷ ss) (q ∷ qs) h =
 pub thinned_agrees : (enough : List (Option ℕ) → Bool) (ss : List ℕ) → agrees (thinned enough ss) ss ≡ true
 thinned_agrees enough ss = thinned_weaker enough ss ss (whole_agrees ss)
 
--- a filling that is enough is still enough after it is thinned
+-- if the pattern that keeps all cells of a filling is enough, so is the thinned filling
 
 enough_first : (enough : List (Option ℕ) → Bool) (s : ℕ) (ss : List ℕ) (b : Bool) → enough (None ∷ whole ss) ≡ b → enough (Some s ∷ whole ss) ≡ true → enough (cond b None (Some s) ∷ whole ss) ≡ true
 enough_first enough s ss true is h = is
@@ -57,8 +57,8 @@ thinned_enough enough (s ∷ ss) h =
     let first = cond (enough (None ∷ whole ss)) None (Some s) in
     thinned_enough (λ p. enough (first ∷ p)) ss (enough_first enough s ss (enough (None ∷ whole ss)) refl h)
 
--- A cell was kept because the pattern without it, with all later cells kept, wasn't enough. If later cells are left out, more fillings agree with
--- that pattern. So it still isn't enough.
+-- Let `enough` satisfy `Rises`. If a thinned filling keeps a cell, then it isn't enough without this cell. The cell was kept because the pattern
+-- without it, with all later cells kept, wasn't enough. When later cells are left out too, that pattern becomes weaker, so it isn't enough either.
 
 rises_behind : (enough : List (Option ℕ) → Bool) (x : Option ℕ) → Rises enough → Rises (λ p. enough (x ∷ p))
 rises_behind enough x up p q weaker h = up (x ∷ p) (x ∷ q) (weaker_cons x x p q (λ t same. same) weaker) h
@@ -87,7 +87,7 @@ thinned_needs enough up (s ∷ ss) (suc k) t h =
     let first = cond (enough (None ∷ whole ss)) None (Some s) in
     thinned_needs (λ p. enough (first ∷ p)) (rises_behind enough first up) ss k t h
 
--- ---- the length and the symbols of a thinned filling
+-- ---- the length of a thinned filling, and the symbols of the pattern that keeps all cells
 
 pub thinned_length : (enough : List (Option ℕ) → Bool) (ss : List ℕ) → length (thinned enough ss) ≡ length ss
 thinned_length enough [] = refl
@@ -98,7 +98,7 @@ whole_below m [] below = All-nil (λ p. IfSome p (λ s. s < m))
 whole_below m (s ∷ ss) below =
     All-cons (λ p. IfSome p (λ t. t < m)) (Some s) (whole ss) (All-head (λ t. t < m) s ss below) (whole_below m ss (All-tail (λ t. t < m) s ss below))
 
--- ---- tests that agree on all patterns of a filling's length with symbols among the first m
+-- ---- two tests that agree on all patterns of a filling's length with symbols among the first m thin the filling alike
 
 kept_one : (m s : ℕ) (b : Bool) → s < m → IfSome (cond b None (Some s)) (λ t. t < m)
 kept_one m s true below = tt

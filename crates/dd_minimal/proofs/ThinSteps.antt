@@ -1,4 +1,4 @@
--- The step of the loop over the cells of a filling.
+-- The loop over the cells of a filling: its start, its step and its end.
 use Rattle.std.proofs.Common.{◌≡◌, ◌<◌, ◌≤◌, ◌+◌, ◌-◌, ◌*◌, ◌/◌, ◌%◌, ◌^◌, ◌&&◌, ℕ, zero, suc, Bool, true, false, not, cond, Option, Some, None, List, [], ◌∷◌, ◌++◌, length, drop, get_or, refl, sym, ◌∙◌, ap, subst, arith}
 use Rattle.std.proofs.{Math.Seq.drop-cons, lemmas.Bool.false≢true}
 use Rattle.std.proofs.lemmas.List.{append_assoc, append-nil, length-append, length-drop, get_or-map}
@@ -187,6 +187,7 @@ start_in m table all at some is within breaks =
 pub stride_in : (m k : ℕ) (all : List ℕ) → 0 < m → all ≡ strides_of m (length all) → k < length all → 0 < get_or all k 0
 stride_in m k all some is within = stride_some m (length all) k (get_or all k 0) some within (ap (λ es. get_or es k 0) is)
 
+-- the end, where all cells are done
 drop_all : (xs : List ℕ) → drop (length xs) xs ≡ []
 drop_all [] = refl
 drop_all (x ∷ xs) = drop_all xs

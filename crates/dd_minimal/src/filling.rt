@@ -1,6 +1,6 @@
 //! The table of outcomes, with an entry for each filling over the whole alphabet, in lexicographic order. The cells get their
-//! symbols one after another. If the symbols so far settle the rule's truth, or one of them isn't allowed, then the formula
-//! isn't evaluated for the fillings that begin with them.
+//! symbols one after another. If `Numbered::settled` finds that the symbols so far settle the rule's truth, or if one of them
+//! isn't allowed, then the rule's formula isn't evaluated for the fillings that begin with them.
 ghost use Rattle.std.specs.Prelude.{◌≡◌, ◌<◌, ◌++◌, length, map, IfOk, OnOk};
 ghost use Rattle.dd_formula.specs.LocalRule.{cells_at};
 ghost use Rattle.dd_forbidden.specs.listing.Extensions.{AreOf, AreSymbols};
@@ -30,8 +30,9 @@ pub(crate) fn outcomes(alloc: Global, rule: &Rule, node: u32) -> Result<Items<Ou
     Ok(table)
 }
 
-/// Appends the outcomes of the fillings that begin with these symbols, which are allowed. The cells of `rest` have no symbol
-/// yet.
+/// Appends the outcomes of the fillings that begin with `symbols`, which are allowed. The cells of `rest` have no symbol yet.
+/// `formula` is the rule's formula at the node without quantifiers, with a number in place of each cell: the cell's index among
+/// the cells that are read.
 fn fill(
     rule: &Rule,
     node: u32,

@@ -1,6 +1,6 @@
-//! The minimal list. The fillings that break the rule are taken in lexicographic order. A filling that isn't marked yet is
-//! thinned to a pattern: the cells that can be left out are left out. The pattern is listed, and all fillings that agree with
-//! it are marked. Marked fillings are skipped.
+//! The minimal list. The fillings that break the rule are taken in lexicographic order. Marked fillings are skipped. Every
+//! other filling is thinned to a pattern: its cells are taken one by one, and a cell is left out if the pattern without it is
+//! still forbidden. The pattern is listed, and all fillings that agree with it are marked.
 ghost use Rattle.std.specs.Prelude.{◌≡◌, ◌<◌, ◌^◌, length, map, IfOk};
 ghost use Rattle.std.specs.List.{All};
 ghost use Rattle.dd_formula.specs.LocalRule.{cells_at};

@@ -1,4 +1,5 @@
-//! Thinning: which cells of a breaking filling are left out.
+//! Thinning: which cells of a breaking filling are left out. At first the pattern keeps all cells. A cell can be left out if
+//! the pattern without it is still forbidden.
 ghost use Rattle.std.specs.Prelude.{◌≡◌, ◌<◌, ◌^◌, ◌/◌, ◌%◌, true, length, IfOk, slice_index_or};
 ghost use Rattle.dd_minimal.specs.finding.Numbers.{digits, strides_of};
 ghost use Rattle.dd_minimal.specs.finding.Outcomes.{does_break};
@@ -17,7 +18,8 @@ pub(crate) struct Thinned {
 }
 
 /// Thins the breaking filling with the number `at`: goes through its cells in cell order, and leaves out each one that can be
-/// left out. The call clears `left_out`, and then puts the strides of the cells that are left out into it.
+/// left out. The call clears `left_out`, and then puts the strides of the cells that are left out into it. `symbols` is the
+/// size of the alphabet. `strides` has the stride of each cell, and `table` the outcome of each filling.
 pub(crate) fn thin(
     alloc: Global,
     symbols: u32,

@@ -1,5 +1,5 @@
--- The truth of a conjunction or a disjunction comes from the truth of its parts. The formula made from such an expansion has the formulas made from
--- its parts.
+-- A conjunction is true exactly when all its parts are, and a disjunction exactly when at least one part is. If an expansion is a conjunction or a
+-- disjunction, the formula made from it is one too, and its parts are the formulas made from the expansion's parts.
 use Rattle.std.proofs.Common.{◌≡◌, ℕ, Bool, List, map, ap, sym, ◌∙◌}
 use Rattle.std.proofs.lemmas.List.Folds.{list_all-map}
 use Rattle.std.specs.List.{list_all, list_any}

@@ -1,4 +1,4 @@
--- What is settled by the first symbols of a list.
+-- When the first symbols of a list settle the truth of a conjunction, a disjunction or a leaf.
 use Rattle.std.proofs.Common.{◌≡◌, ℕ, zero, suc, Bool, List, [], ◌∷◌, ◌++◌, slice_get, ap, ◌∙◌, Some, None}
 use Rattle.std.specs.Prelude.{IfSome, Option, ◌==◌}
 use Rattle.dd_expansion.specs.Truth.{is_symbol}
@@ -7,7 +7,7 @@ use Rattle.dd_numbered.specs.settling.Parts.{AreAllSettled, IsAnySettled, IsLeaf
 use Rattle.dd_numbered.proofs.Layers.{holds_and, holds_or}
 use Rattle.dd_numbered.specs.declared.numbered.Numbered.TheVariants as formula
 
--- if the value of an option has a property, then it has each weaker property
+-- if the value of an option, if any, has the property P, and P implies Q, then the value has the property Q
 if_some : {P Q : Bool → Type 0} (o : Option Bool) → ((b : Bool) → P b → Q b) → IfSome o P → IfSome o Q
 if_some None f h = tt
 if_some (Some b) f h = f b h

@@ -13,7 +13,7 @@ abbrev pub symbol_with : List ℕ → Option ℕ → Option ℕ
 symbol_with ss None = None
 symbol_with ss (Some k) = slice_get ss k
 
--- the look-up that gives each cell the symbol at its number
+-- the look-up that gives each cell the symbol of the list at the cell's number, or none if there is no such symbol
 abbrev pub read_by : Numbering → List ℕ → Look
 read_by number ss c = symbol_with ss (number c)
 

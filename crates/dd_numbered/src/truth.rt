@@ -24,7 +24,7 @@ impl Numbered {
     }
 }
 
-/// Whether the list has `symbol` at the index `number`.
+/// Whether the list has `symbol` at the index `number`. False if the index is past the end of the list.
 fn is_there(symbols: &[u32], number: usize, symbol: u32) -> bool
     ensures { result ≡ is_symbol symbol (slice_get symbols.now number) }
 {

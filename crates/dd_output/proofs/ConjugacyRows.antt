@@ -1,4 +1,4 @@
--- The laws of the rows CONJUGATE and BROKEN.
+-- The laws of the answers CONJUGATE and BROKEN.
 use Rattle.std.proofs.Common.{◌≡◌, ℕ, ◌≤◌, List, [], ◌∷◌, ◌++◌, length, Some, None, refl, sym, ap, ◌∙◌, append_assoc, arith}
 use Rattle.std.specs.{Prelude.codes, Fmt.decimal, List.flat_map}
 use Rattle.dd_derivation.specs.declared.step.Step.{Step}

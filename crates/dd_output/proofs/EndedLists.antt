@@ -18,7 +18,7 @@ use Rattle.dd_output.proofs.{Loops.Unrolls, Signs.FirstDigit, Signs.first_digit,
 the_end : (end other : ℕ) → IsEnd end other end
 the_end end other = inl refl
 
--- the texts that complete a list: some items, and the end of the list
+-- the completed texts of a list from index k on: some items and an end, each of which fits its index
 abbrev pub IsList : {A B : Type 0} → (ℕ → A → Type 0) → (ℕ → A → List ℕ) → (ℕ → B → Type 0) → (ℕ → B → List ℕ) → ℕ → List ℕ → Type 0
 IsList {A} {B} F t G u k text = (xs : List A) × (y : B) × AllFrom F G k xs y × (text ≡ entries_text t u k xs y)
 
@@ -26,7 +26,7 @@ pub list_more : {A B : Type 0} (F : ℕ → A → Type 0) (t : ℕ → A → Lis
     → F k x → IsList F t G u (suc k) text → IsList F t G u k (t k x ++ text)
 list_more F t G u k x text good rest = (x ∷ rest.0, rest.1, (good, rest.2), ap (λ (l : List ℕ). t k x ++ l) rest.3)
 
--- lists that end with a fixed text
+-- the text of a list that ends with a fixed text u: the texts of its items, and then u
 pub entries_flat : {A : Type 0} (t : A → List ℕ) (u : List ℕ) (k : ℕ) (xs : List A) (y : Unit {0}) → entries_text (λ _. t) (λ _ _. u) k xs y ≡ flat_map t xs ++ u
 entries_flat t u k [] y = refl
 entries_flat t u k (x ∷ xs) y = rw (flat_map-cons t x xs, entries_flat t u (suc k) xs y) (sym (append_assoc (t x) (flat_map t xs) u))
@@ -39,7 +39,7 @@ pub flat_fits : {A : Type 0} (F : A → Type 0) (k : ℕ) (xs : List A) (y : Uni
 flat_fits F k [] y good = tt
 flat_fits F k (x ∷ xs) y good = (good.0, flat_fits F (suc k) xs y good.1)
 
--- the law of a variable or a hint with the space after it; each completion is such a number and a space
+-- the law of a variable or a hint with the space after it; each completed text is such a number and a space
 number_list : (low bound : ℕ) → low ≤ 1 → low ≤ bound → bound < 2 ^ 64
     → Reads (λ p. (low ≤ p.0) × (p.0 ≤ bound) × IsEnd 32 32 p.1) (λ p. decimal p.0 ++ p.1 ∷ [])
     (λ text. (n : ℕ) × (low ≤ n) × (n ≤ bound) × (text ≡ decimal n ++ 32 ∷ [])) (number_at low bound 32 32 nothing)
@@ -133,7 +133,7 @@ number_entry_reads end k =
     (λ x good. (refl, fits_hint x (same_fits IsWritableHint k x good)))
     (λ text good. good)
 
--- whole lists of items that end with a fixed text
+-- the law of a whole list that ends with a fixed text
 pub flat_reads : {A : Type 0} (F : A → Type 0) (t : A → List ℕ) (u : List ℕ) (entry : List ℕ → Read (Entry A (Unit {0})))
     → ((k : ℕ) → Reads (entry_fits {B = Unit {0}} (λ _. F) anything k) (entry_text {B = Unit {0}} (λ _. t) (λ _ _. u) k) (IsList {B = Unit {0}} (λ _. F) (λ _. t) anything (λ _ _. u) k) entry)
     → ((x : A) → F x → 0 < length (t x))
@@ -152,7 +152,7 @@ flat_reads {A} F t u entry law some =
 hint_some : (n : ℕ) → IsWritableHint n → 0 < length (spaced n)
 hint_some n good = omega (arith, length-append (decimal n) (32 ∷ []))
 
--- a list's reader and its least text make a good form
+-- a form for lists that end with a fixed text is good if its reader has the law of `flat_reads` and this text is its least text
 flat_good : {A : Type 0} (F : A → Type 0) (t : A → List ℕ) (u : List ℕ) (f : Form (List A)) → f.least ≡ u
     → Reads (AllByRecursion F) (λ xs. flat_map t xs ++ u) (λ text. (xs : List A) × AllByRecursion F xs × (text ≡ flat_map t xs ++ u)) f.read
     → Good (All F) (λ xs. flat_map t xs ++ u) f

@@ -14,11 +14,12 @@ abbrev pub AllFrom : {A B : Type 0} → (ℕ → A → Type 0) → (ℕ → B �
 AllFrom F G k [] y = G k y
 AllFrom F G k (x ∷ xs) y = F k x × AllFrom F G (suc k) xs y
 
--- which entry fits at an index, and the text of an entry
+-- the entry fits at index k
 abbrev pub entry_fits : {A B : Type 0} → (ℕ → A → Type 0) → (ℕ → B → Type 0) → ℕ → Entry A B → Type 0
 entry_fits F G k (item x) = F k x
 entry_fits F G k (last y) = G k y
 
+-- the text of an entry at index k
 abbrev pub entry_text : {A B : Type 0} → (ℕ → A → List ℕ) → (ℕ → B → List ℕ) → ℕ → Entry A B → List ℕ
 entry_text t u k (item x) = t k x
 entry_text t u k (last y) = u k y
@@ -54,7 +55,7 @@ module _ {A B : Type 0} (F : ℕ → A → Type 0) (t : ℕ → A → List ℕ) 
       bind_same (entry k bytes) (next_at (until_at entry (suc k) f)) (next_at (until_at entry (suc k) g))
       (next_same f g k bytes (until_same f g (suc k)) p q)
 
-  -- one entry, and the rest
+  -- if the first entry is an item, the list is this item and then the rest
   unrolled_item : (k : ℕ) (bytes : List ℕ) (x : A) (rest : List ℕ) → entry k bytes ≡ Ok (item x, rest)
       → entries_at entry k bytes ≡ (entries_at entry (suc k) rest >>= λ o. Ok ((x ∷ o.0.0, o.0.1), o.1))
   unrolled_item k bytes x rest e =

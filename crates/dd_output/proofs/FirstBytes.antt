@@ -45,12 +45,13 @@ first_is (answer.Broken part periods shear symbols) good = (drop 1 (body_text (a
 first_is (answer.Least weight symbols steps) good = (drop 1 (body_text (answer.Least weight symbols steps)), refl)
 first_is (answer.Nothing steps) good = (drop 1 (body_text (answer.Nothing steps)), refl)
 
+-- an output can hold the answer, and its lines begin with this byte
 abbrev pub Row : ℕ → Answer → Type 0
 Row = Keyed IsWritable first_of
 
 -- ---- kinds whose texts begin alike
 
--- the byte after the part that the texts of two kinds share; 0 for all kinds but these six
+-- for the six kinds that share a row with another kind, the byte after the part that the texts of both share; 0 for all other kinds
 abbrev pub second_of : Answer → ℕ
 second_of (answer.No side periods shear symbols) = 32
 second_of (answer.Nothing steps) = 78
@@ -60,10 +61,11 @@ second_of (answer.Bound numerator denominator common amounts duals) = 79
 second_of (answer.Broken part periods shear symbols) = 82
 second_of _ = 0
 
+-- an answer in the row of the byte `first`; the byte after the shared part of its text is `second`
 abbrev pub Second : ℕ → ℕ → Answer → Type 0
 Second first second = Keyed (Row first) second_of second
 
--- the text after its first n bytes
+-- the lines of an answer, without their first n bytes
 abbrev pub tail_text : ℕ → Answer → List ℕ
 tail_text n a = drop n (body_text a)
 
@@ -74,7 +76,7 @@ either_first : (first one two : ℕ) (a : Answer) → Either first one two a →
 either_first first one two a (inl good) = good.0
 either_first first one two a (inr good) = good.0
 
--- two kinds whose texts begin alike: the next byte tells them apart
+-- a row for two kinds is good if their forms are good, their texts both begin with w, and the next byte tells the kinds apart
 pub good_front : (w : List ℕ) (n first one two : ℕ) (f g : Form Answer) → (two == one) ≡ false → Good (Second first one) (tail_text n) f → Good (Second first two) (tail_text n) g
     → ((a : Answer) → Row first a → (body_text a ≡ w ++ tail_text n a) × Either first one two a)
     → ((a : Answer) → Row first a → (more : List ℕ) × (tail_text n a ≡ second_of a ∷ more))

@@ -1,5 +1,6 @@
--- Good forms. A good form reads exactly the texts of the values that fit, and each such text has only one value. Where reading stops, some text
--- completes what was read. The least text of a good form is the text of a value that fits. A form that is made of good forms is good.
+-- Good forms. A good form reads exactly the texts of the values that fit, and each such text has only one value. Where reading stops, the missing
+-- text completes what was read to such a text. The least text of a good form is the text of a value that fits. Under the conditions of the lemmas
+-- below, a form that is made of good forms is good.
 use Rattle.std.proofs.Common.{◌≡◌, ℕ, zero, suc, ◌+◌, ◌<◌, ◌≤◌, ◌^◌, List, [], ◌∷◌, ◌++◌, length, Bool, true, false, cond, inl, inr, ◌⊎◌, refl, sym, ap, subst, ◌∙◌, append_assoc, arith}
 use Rattle.std.proofs.lemmas.{Bool.eqb-true, Bool.eq-eqb, Bool.false≢true, Fmt.decimal_digit}
 use Rattle.std.proofs.lemmas.List.{length-replicate, Concat.flat_map-cons}
@@ -23,7 +24,7 @@ pub record Good {A : Type 0} (F : A → Type 0) (t : A → List ℕ) (f : Form A
   pub fits : F value
   pub is : f.least ≡ t value
 
--- the same reader, with the texts of more values as completions
+-- the same reader, with the texts of more values as completed texts
 pub wider : {A : Type 0} (F G : A → Type 0) (t : A → List ℕ) (r : List ℕ → Read A) → ReadsText F t r → ((x : A) → F x → G x) → Reads F t (IsText G t) r
 wider F G t r law more = same_reads F t (IsText F t) r F t (IsText G t) law (λ x good. (refl, good)) (λ x good. (refl, good)) (λ text a. (a.0, more a.0 a.1, a.2))
 

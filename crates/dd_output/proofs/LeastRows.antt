@@ -1,4 +1,4 @@
--- The laws of the rows LEAST and NONE.
+-- The laws of the answers LEAST and NONE.
 use Rattle.std.proofs.Common.{◌≡◌, ℕ, ◌≤◌, List, [], ◌∷◌, ◌++◌, length, None, false, inl, inr, ◌⊎◌, refl, sym, ap, ◌∙◌, append_assoc, arith}
 use Rattle.std.proofs.lemmas.{Bool.ne_eqb, Fmt.decimal_digit, List.append-nil}
 use Rattle.std.specs.{Prelude.codes, Prelude.◌==◌, Prelude.if◌then◌else◌, Fmt.decimal}

@@ -21,7 +21,7 @@ decimal_more n d some digit fits =
     let rest : (n * 10 + d) % 10 ≡ d = omega arith in
     decimal_step (n * 10 + d) (omega arith) fits ∙ rw (quotient, rest) refl
 
--- the byte that follows a number
+-- e is a byte that can end a number: `end` or `other`
 abbrev pub IsEnd : ℕ → ℕ → ℕ → Type 0
 IsEnd end other e = (e ≡ end) ⊎ (e ≡ other)
 
@@ -38,14 +38,15 @@ IsEnd_from end other e p = elim (or_cases (e == end) (e == other) p) [
 not_digit : (b end : ℕ) → is_digit b ≡ true → is_digit end ≡ false → (b == end) ≡ false
 not_digit b end is other = ne_eqb b end (λ e. both_ways (is_digit b) (rw e other) is)
 
--- the text of a number, followed by a digit, is the text of the number with this digit appended
+-- the text of a number above 0, followed by a digit, is the text of the number with this digit appended, if that number is below 2^64
 digit_read : (n b : ℕ) (bytes : List ℕ) → is_digit b ≡ true → 0 < n → n * 10 + (b - 48) < 2 ^ 64 → decimal n ++ b ∷ bytes ≡ decimal (n * 10 + (b - 48)) ++ bytes
 digit_read n b bytes is some fits =
     let bounds = digit_bounds b is in
     let cell : 48 + (b - 48) ≡ b = omega (arith, bounds.0) in
     rw (decimal_more n (b - 48) some (omega (arith, bounds.1)) fits, cell) (sym (append_assoc (decimal n) (b ∷ []) bytes))
 
--- The next byte may end the number (then b is true) or be a further digit (then c is true). The result tells which of these it is, if any.
+-- Here b says that the next byte ends the number, and c that it is a further digit. If reading succeeds, one of these holds. If reading stops, b
+-- doesn't hold (`either_err`).
 either_ok : {A : Type 0} (b c : Bool) (z : A) (r : Result A Stop) (d : Stop) (y : A) → cond b (Ok z) (cond c r (Err d)) ≡ Ok y
     → ((b ≡ true) × (z ≡ y)) ⊎ ((b ≡ false) × (c ≡ true) × (r ≡ Ok y))
 either_ok true c z r d y e = inl (refl, cc)

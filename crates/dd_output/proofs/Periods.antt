@@ -170,10 +170,11 @@ periods_unroll =
 
 -- ---- all periods
 
--- which periods and shear fit, and their text without the space before the first period
+-- the periods and the shear are ones that an output can hold
 abbrev pub PeriodsFit : List ℕ × ℕ → Type 0
 PeriodsFit x = (length x.0 ≤ 3) × ((1 ≤ length x.0) × All IsWritableNumber x.0) × IsWritableNumber x.1 × IsShearFor x.0 x.1
 
+-- the text of the periods and the shear, without the space before the first period
 abbrev pub periods_rest : List ℕ × ℕ → List ℕ
 periods_rest x = drop 1 (spaced_out x.0 ++ (shear_text x.1 ++ line_feed))
 

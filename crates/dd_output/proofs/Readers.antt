@@ -1,19 +1,20 @@
--- What a reader reads and where it stops, and how readers are put together.
+-- The law of a reader, `Reads`, says what it reads and where it stops. Here are the laws of readers that are put together from other readers.
 use Rattle.std.proofs.Common.{◌≡◌, ℕ, zero, suc, List, [], ◌∷◌, ◌++◌, length, Result, Ok, Err, true, false, ◌⊎◌, inl, inr, refl, sym, ap, subst, ◌∙◌, append_assoc, arith}
 use Rattle.std.proofs.lemmas.List.{nil_from_length, Concat.flat_map-cons}
 use Rattle.std.proofs.lemmas.Bool.{cases_Bool, cond-true, cond-false, eq-eqb}
 use Rattle.std.specs.{Prelude.◌==◌, List.flat_map, List.AllByRecursion}
 use Rattle.dd_output.specs.reading.Stops.{Stop, stop, Read, ◌>>=◌, before, then_at, map_at, copies, many_at, begins, choice_at}
 
--- Where a reader stopped. It read the prefix `front`. With the missing text after it, `front` becomes a completion, which is a text of which C holds.
--- With the next byte after it, the reader stops at the same place, whatever follows.
+-- Where a reader stopped. It read the prefix `front`. This prefix and then the missing text make a completed text, which is a text of which C holds.
+-- On each text that begins with `front` and the next byte, the reader stops at the same place.
 pub record Halts {A : Type 0} (C : List ℕ → Type 0) (r : List ℕ → Read A) (bytes : List ℕ) (s : Stop) : Type 0 where
   pub front : List ℕ
   pub whole : bytes ≡ front ++ s.left
   pub completed : C (front ++ s.missing)
   pub no_more : (b : ℕ) (more after : List ℕ) → s.left ≡ b ∷ more → r (front ++ b ∷ after) ≡ Err (stop (b ∷ after) s.missing)
 
--- A reader that reads the texts t x of the values x that fit. It reads each of them as x, and stops where no such text goes on.
+-- The law of a reader. A value x fits if F x holds. Its text is t x. The reader reads exactly the texts of the values that fit, each as its value.
+-- Wherever it stops, the missing text completes what it read to a text of which C holds.
 pub record Reads {A : Type 0} (F : A → Type 0) (t : A → List ℕ) (C : List ℕ → Type 0) (r : List ℕ → Read A) : Type 0 where
   pub takes : (bytes : List ℕ) (x : A) (rest : List ℕ) → r bytes ≡ Ok (x, rest) → (bytes ≡ t x ++ rest) × F x
   pub again : (x : A) (rest : List ℕ) → F x → r (t x ++ rest) ≡ Ok (x, rest)
@@ -135,7 +136,7 @@ map_reads {A} {B} F t C r G u f law to from =
       ];
     }
 
--- the same reader, with its fitting values or its completions stated in another way
+-- the same reader, with its fitting values and their texts stated in another way, and with D, which may hold of more texts, in place of C
 pub same_reads : {A : Type 0} (F : A → Type 0) (t : A → List ℕ) (C : List ℕ → Type 0) (r : List ℕ → Read A) (G : A → Type 0) (u : A → List ℕ) (D : List ℕ → Type 0)
     → Reads F t C r → ((x : A) → F x → (u x ≡ t x) × G x) → ((x : A) → G x → (u x ≡ t x) × F x) → ((text : List ℕ) → C text → D text) → Reads G u D r
 same_reads F t C r G u D law to from done = record {

@@ -203,7 +203,7 @@ whole_side =
     good_same (OnSide side.Whole) (λ x. periods_rest x.1) (grammar.sided side.Whole) (OnSide side.Whole) sided_rest (one_side side.Whole)
     (λ x good. (same x good, good)) (λ x good. (same x good, good))
 
--- periods begin with a digit
+-- the text begins with a byte of at most 57, which is the digit 9; texts of periods do
 record Digit (text : List ℕ) : Type 0 where
   first : ℕ
   more : List ℕ

@@ -7,7 +7,7 @@ use Rattle.dd_output.specs.reading.Lists.{minus_of, plus_of, signed_at}
 use Rattle.dd_output.proofs.{Readers.Reads, Readers.map_reads, Readers.same_reads, Readers.choice_reads, Tokens.after_reads}
 use Rattle.dd_output.proofs.{Numbers.IsEnd, Numbers.number_reads, Forms.InBounds, Forms.number_text}
 
--- the first digit of a number
+-- the text ds begins with a byte from `least` to 57, which is the digit 9
 pub record FirstDigit (least : ℕ) (ds : List ℕ) : Type 0 where
   pub first : ℕ
   pub more : List ℕ

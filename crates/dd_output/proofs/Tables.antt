@@ -15,9 +15,11 @@ abbrev pub are_apart : {A : Type 0} → ℕ × Form A → List (ℕ × Form A) �
 are_apart row [] = true
 are_apart row (next ∷ rows) = not (is_among row.0 next rows) && are_apart next rows
 
+-- a fits, and its key is c; the key of a value is the byte with which its text begins
 abbrev pub Keyed : {A : Type 0} → (A → Type 0) → (A → ℕ) → ℕ → A → Type 0
 Keyed F key c a = F a × (key a ≡ c)
 
+-- each row is good for the values whose key is the byte of the row
 abbrev pub GoodRows : {A : Type 0} → (A → Type 0) → (A → ℕ) → (A → List ℕ) → ℕ × Form A → List (ℕ × Form A) → Type 0
 GoodRows F key t row [] = Good (Keyed F key row.0) t row.1
 GoodRows F key t row (next ∷ rows) = Good (Keyed F key row.0) t row.1 × GoodRows F key t next rows
@@ -27,6 +29,7 @@ not_both true is also = absurd (false≢true is)
 not_both false is also = absurd (false≢true also)
 
 module _ {A : Type 0} (F : A → Type 0) (key : A → ℕ) (t : A → List ℕ) (first : (a : A) → F a → (more : List ℕ) × (t a ≡ key a ∷ more)) where
+  -- a fits, and its key is the byte of one of the rows
   abbrev pub Among : ℕ × Form A → List (ℕ × Form A) → A → Type 0
   Among row rows a = F a × (is_among (key a) row rows ≡ true)
 

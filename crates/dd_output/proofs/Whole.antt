@@ -1,4 +1,4 @@
--- Reading all of the bytes: a text has at most one value, and a malformed text is refused at its offset.
+-- Reading all of the bytes: they are the text of at most one output, and bytes that aren't the text of an output are refused at their offset.
 use Rattle.std.proofs.Common.{◌≡◌, ℕ, suc, ◌+◌, ◌-◌, ◌<◌, ◌≤◌, List, [], ◌∷◌, ◌++◌, length, length-append, take, Result, Ok, Err, Bool, true, false, cond, ◌⊎◌, inl, inr, refl, sym, ap, subst, ◌∙◌, append_assoc, arith}
 use Rattle.std.proofs.lemmas.Bool.{eqb-true, Decides.leb_tells}
 use Rattle.std.proofs.{lemmas.List.append-nil, lemmas.List.nil_from_length, lemmas.List.take_at, lemmas.List.drop_at, Math.Seq.take-add}
@@ -126,7 +126,7 @@ refused_at bytes left is =
     let a = stop_of bytes left (all_at bytes) is in
     refused bytes a.0 a.1 left a.2
 
--- each prefix of a well-formed text is completed by the text that is missing
+-- if reading a prefix of a well-formed text stops, the missing text completes this prefix
 completed_from : (front more : List ℕ) (good : IsWellFormed (front ++ more)) (s : Stop) → all_at front ≡ Err s → (rest : List ℕ) → s.left ≡ rest → IsWellFormed (front ++ s.missing)
 completed_from front more good s e [] is =
     let h = whole_stops front s e in
@@ -153,7 +153,7 @@ le_or_lt n m = elim (leb_tells n m) [
   | inr other ↦ inr other.1
 ]
 
--- no offset n of the bytes exceeds another offset m: it would give a longer prefix
+-- no offset n of the bytes exceeds another offset m: otherwise m wouldn't be the length of the longest prefix
 no_less : (bytes : List ℕ) (m n : ℕ) → IsOffset bytes m → IsOffset bytes n → n ≤ m
 no_less bytes m n one two = elim (le_or_lt n m) [
   | inl le ↦ le

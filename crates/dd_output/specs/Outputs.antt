@@ -5,7 +5,7 @@ use Rattle.dd_values.specs.Bounds.{most_script, most_commands}
 use Rattle.dd_certificate.specs.{declared.answer.Answer.Answer, Text.line_feed, Text.answer_text, Bounds.IsWritable}
 use Rattle.dd_output.specs.declared.output.Output.{Output}
 
--- the text before the first answer: the format, the length of the script, and the script with a line feed after it
+-- the text before the first answer: the line `diddy 1`, a line with the length of the script, and the script with a line feed after it
 abbrev pub header : List ℕ → List ℕ
 header script = (codes "diddy 1\nscript " ++ (decimal (length script) ++ line_feed)) ++ (script ++ line_feed)
 

@@ -1,4 +1,6 @@
-//! Reads refutations.
+//! Reads refutations. A refutation is a list of steps. The line of a step has the literals of its clause, then its hints, and
+//! then its deletes. The hints are the numbers of the clauses from which this clause follows. The deletes are numbers of
+//! clauses, too: no later step may have them among its hints.
 ghost use Rattle.std.specs.Prelude.{◌≡◌};
 ghost use Rattle.dd_certificate.specs.Bounds.{most_count};
 ghost use Rattle.dd_output.specs.reading.Stops.{Gives, number_at, many_at, copies};

@@ -8,20 +8,21 @@ use thiserror::Error;
 /// Why a whole output could not be read.
 #[derive(Clone, Copy, Debug, PartialEq, Eq, Error)]
 pub enum CertificateFault {
-    /// The bytes aren't the text of an output. This is the length of their longest prefix with which some output begins.
-    #[error("not an output: wrong or missing byte after the first {0}")]
+    /// The bytes aren't the text of an output. The number is the length, in bytes, of their longest prefix with which some
+    /// output begins.
+    #[error("not an output: the byte at offset {0} is wrong or missing")]
     Malformed(u64),
     /// Memory ran out.
     #[error("out of memory")]
     Memory,
 }
 
-/// Why a reader of a part of an output stopped.
+/// Why a reader gave no value.
 #[derive(Debug, Drop)]
 pub(crate) enum ReadFault {
     /// Memory ran out.
     Memory,
-    /// The next byte is wrong, or there is none. This many bytes were left.
+    /// The next byte is wrong, or there is none. The number says how many bytes were left, from that byte on.
     Stopped(usize),
 }
 

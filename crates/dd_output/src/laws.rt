@@ -7,17 +7,18 @@ ghost use Rattle.dd_output.specs.declared.fault.CertificateFault.{CertificateFau
 ghost use Rattle.dd_output.specs.declared.fault.CertificateFault.TheVariants as faults;
 ghost use Rattle.dd_output.specs.reading.Whole.{completion};
 
-/// Does nothing. Its contract says that different outputs have different texts.
+/// Does nothing. Its contract says that different outputs within bounds have different texts.
 pub fn one_output()
     ensures { (a b : Output) → IsWritableOutput a → IsWritableOutput b → output_text a ≡ output_text b → a ≡ b }
 {}
 
-/// Does nothing. Its contract says that reading the text of an output gives that output, unless memory runs out.
+/// Does nothing. Its contract says that reading the text of an output within bounds gives that output, unless memory runs out.
 pub fn read_again()
     ensures { (o : Output) (read : Result Output CertificateFault) → IsWritableOutput o → ReadsOutput (output_text o) read → (read ≡ Ok o) ⊎ (read ≡ Err faults.Memory) }
 {}
 
-/// Does nothing. Its contract says that at most one offset fits the bytes, so the bytes determine the offset in `Malformed`.
+/// Does nothing. Its contract says that bytes have at most one offset, the length of their longest prefix with which some
+/// output begins. So the bytes determine the number in `Malformed`.
 pub fn one_offset()
     ensures { (bytes : List ℕ) (m n : ℕ) → IsOffset bytes m → IsOffset bytes n → m ≡ n }
 {}

@@ -1,13 +1,18 @@
 //! Writes whole outputs, and reads them back. An output is what a run writes: a script, the answers to its queries in order,
-//! and the end, which is the line `end`. Only this form is checked here: any bytes may stand for the script, and answers may be
-//! wrong. Bytes that aren't the text of an output are refused at their first wrong byte, or at their end if they stop too
-//! early. Some output begins with the bytes before that point, but none begins with these bytes and the wrong one. The grammar
-//! of answers is a table. Each row is for one kind of answer, or for two kinds whose texts begin alike. `Answer` in
-//! `dd_certificate` says what the parts of an answer mean. Wherever reading stops, the grammar gives a text that completes what
-//! was read. So no byte before that point is wrong.
+//! and the end, which is the line `end`. There are bounds (`IsWritableOutput`) on the length of the script, on the number of
+//! answers, and on the numbers and lists of each answer. Only this form and these bounds are checked here: any bytes may stand
+//! for the script, and answers may be wrong. Bytes that aren't the text of an output are refused at their first wrong byte, or
+//! at their end if they stop too early. Some output begins with the bytes before that point, but none begins with these bytes
+//! and the wrong one. Wherever reading stops, a text completes what was read: appended to the bytes before that point, it makes
+//! the text of an output.
 //!
-//! Most functions that take bytes are readers. A reader reads the value with which the bytes begin, and returns it with the bytes
-//! that are left. It stops at the first wrong byte. Its doc comment names what it reads.
+//! The grammar of answers is a table. Each row is for one kind of answer, or for two kinds whose texts begin alike. `Answer` in
+//! `dd_certificate` says what the parts of an answer mean. A periodic configuration is given by its periods, its shear and the
+//! symbols of the box that repeats. Its periods are the lengths of its period vectors, each along its own axis. Its shear is
+//! how far the second period vector goes along the first axis.
+//!
+//! Most functions that take bytes are readers. A reader reads the value with which the bytes begin, and returns it with the
+//! bytes after it. It stops where a byte is wrong or missing. Its doc comment names what it reads.
 #![tactic(auto)]
 
 mod bodies;

@@ -110,8 +110,8 @@ pub(crate) fn numbers_until<'a>(
     }
 }
 
-/// One of the two bytes that can end the number with this index, from 0, in a line of at least `least` numbers. It is a space if
-/// more numbers have to follow, and a line feed otherwise.
+/// One of the two bytes that can end the number with this index, from 0, in a line of at least `least` numbers. It is a space
+/// if more numbers have to follow, and a line feed otherwise. It may be the same byte as `other_at`.
 pub(crate) fn end_at(least: u64, index: u64) -> u8
     ensures { result ≡ end_at least index }
 {
@@ -198,7 +198,8 @@ fn minus_at(bytes: &[u8], end: u8, other: u8) -> Result<(i64, u8, &[u8]), ReadFa
     Ok((-(number as i64), end, rest))
 }
 
-/// A number that may have a minus sign, the byte that ends it, and the bytes after that.
+/// A signed number: one that may have a minus sign. Returns the number, the byte that ends it, and the bytes after that. The
+/// byte that ends it is `end` or `other`.
 #[tactic(auto, unfolding(crate::specs::reading::Lists::signed_at))]
 fn signed_at(bytes: &[u8], end: u8, other: u8) -> Result<(i64, u8, &[u8]), ReadFault>
     ensures { Gives (λ x. ((x.0, x.1), x.2.now)) result (signed_at most_number end other [] bytes.now) }

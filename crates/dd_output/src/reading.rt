@@ -136,8 +136,8 @@ fn all_of(alloc: Global, bytes: &[u8]) -> Result<Output, ReadFault>
 ///
 /// # Errors
 ///
-/// `Malformed` if there is no such output. It holds the length of the longest prefix of the bytes with which some output begins.
-/// `Memory` if memory runs out.
+/// `Malformed` if there is no such output. It holds the length, in bytes, of the longest prefix of `bytes` with which some
+/// output begins. `Memory` if memory runs out.
 #[tactic(auto, using(crate::proofs::Whole::whole_takes, crate::proofs::Whole::refused_at, crate::proofs::Whole::left_fits))]
 pub fn read_output(alloc: Global, bytes: &[u8]) -> Result<Output, CertificateFault>
     ensures { ReadsOutput bytes.now result }

@@ -1,5 +1,6 @@
 //! Reads the periods of a configuration, the shear that may follow two or three periods, and the side that may come before the
-//! periods. The side says which of the two rules of an equality query the configuration obeys.
+//! periods. The side says which of the two rules of an equality query the configuration obeys: `left` is the first, and `right`
+//! the second.
 ghost use Rattle.std.specs.Prelude.{◌≡◌};
 ghost use Rattle.dd_output.specs.reading.Stops.{Gives};
 ghost use Rattle.dd_output.specs.reading.Periods.{period_at, shear_at, period_entry, periods};
@@ -23,7 +24,7 @@ pub(crate) enum PeriodEntry {
     Shear(u64),
 }
 
-/// A period.
+/// A period, and the space or the line feed after it.
 fn period_at(bytes: &[u8]) -> Result<(PeriodEntry, &[u8]), ReadFault>
     ensures { Gives (λ x. (period_seen x.0, x.1.now)) result (period_at bytes.now) }
 {

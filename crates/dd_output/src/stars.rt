@@ -30,7 +30,8 @@ fn end_byte_at(bytes: &[u8], end: u8, other: u8) -> Result<(u8, &[u8]), ReadFaul
     }
 }
 
-/// A symbol, or `None` for a star; the byte that ends it; and the bytes after that.
+/// A symbol, or `None` for a star. Returns it, the byte that ends it, and the bytes after that. The byte that ends it is `end`
+/// or `other`.
 #[tactic(auto, unfolding(crate::specs::reading::Stars::symbol_or_star_at))]
 fn symbol_or_star_at(
     bytes: &[u8],

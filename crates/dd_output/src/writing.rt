@@ -7,8 +7,8 @@ use crate::output::Output;
 use dd_certificate::{Answer, write_answer};
 use std::alloc::{AllocError, Global};
 
-/// The text before the first answer: the name of the format, the length of the script in bytes, and the script with a line feed
-/// after it. Fails only if memory runs out.
+/// The text before the first answer: the line `diddy 1`, a line with the word `script` and the length of the script in bytes,
+/// and the script with a line feed after it. Fails only if memory runs out.
 pub fn header(alloc: Global, script: &[u8]) -> Result<Vec<u8>, AllocError>
     ensures { IfOk result (λ text. text.items ≡ header script.now) }
 {
@@ -32,7 +32,8 @@ fn answers_text(alloc: Global, answers: &[Answer]) -> Result<Vec<u8>, AllocError
     Ok(text)
 }
 
-/// The text of an output: its script, the answers to its queries in order, and the end. Fails only if memory runs out.
+/// The text of an output within bounds: its script, the answers to its queries in order, and the end. Fails only if memory runs
+/// out.
 pub fn write_output(alloc: Global, output: &Output) -> Result<Vec<u8>, AllocError>
     requires { IsWritableOutput output.now }
     ensures { IfOk result (λ text. text.items ≡ output_text output.now) }

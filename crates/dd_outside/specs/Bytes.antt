@@ -1,5 +1,5 @@
--- What reads and writes do to the bytes left in a source or held by a sink, where these bytes are known. `old` holds the bytes
--- before the reads or writes, and `new` those after, if they are known.
+-- What reads and writes do to the bytes left in a source or held by a sink. `old` is the bytes before the reads or writes, and `new`
+-- the bytes after them. Each is `None` if contracts don't know these bytes.
 use Rattle.std.specs.Prelude.{◌≡◌, ℕ, ◌-◌, ◌^◌, ◌≤◌, ◌<◌, List, ◌++◌, length, min}
 use Rattle.std.specs.{declared.option.Option.Option, Io.KnownBytes.Appends, Io.KnownBytes.Consumes, Io.KnownBytes.IsAtEnd}
 use Rattle.std.proofs.Common.{arith}
@@ -28,7 +28,7 @@ pub record GivesMore (old new : Option (List ℕ)) (limit : ℕ) : Type 0 where
   pub consumed : Consumes old new given
   pub many : limit < length given
 
--- A read appended `count` bytes to those read before. The count is 0 only at the end of the source.
+-- A read gave `count` bytes. All bytes read so far were `before`, and are `after` now. The count is 0 only at the end of the source.
 pub record ReadsOn (old new : Option (List ℕ)) (before after : List ℕ) (count : ℕ) : Type 0 where
   pub given : List ℕ
   pub consumed : Consumes old new given

@@ -14,7 +14,7 @@ source_left source = drop source.at source.bytes.items
 abbrev pub source_step : MemorySource → ℕ
 source_step source = source.step
 
--- The numbers of the calls of the source that fail.
+-- The numbers of the reads that are to fail.
 abbrev pub source_failing : MemorySource → List ℕ
 source_failing source = source.plan.failing.items
 
@@ -38,7 +38,7 @@ sink_free sink = length sink.room.items - sink.taken
 abbrev pub sink_step : MemorySink → ℕ
 sink_step sink = sink.step
 
--- The numbers of the calls of the sink that fail.
+-- The numbers of the writes that are to fail.
 abbrev pub sink_failing : MemorySink → List ℕ
 sink_failing sink = sink.plan.failing.items
 

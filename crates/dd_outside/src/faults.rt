@@ -21,7 +21,7 @@ pub enum ReadAllFault {
     /// A read failed.
     #[error("the source failed")]
     ReadFault,
-    /// The source gave more bytes than the limit.
+    /// The source gave more bytes than the limit that was passed to `read_all`.
     #[error("the source has more bytes than the limit")]
     TooLong,
     /// Memory ran out.

@@ -1,4 +1,5 @@
-//! A source and a sink in memory. Their calls are numbered from 1. The caller lists the numbers of the calls that fail.
+//! A source and a sink in memory. The reads of the source, and the writes of the sink, are numbered from 1. A list says which
+//! of these calls fail.
 ghost use Rattle.std.specs.Prelude.{◌≡◌, ◌+◌, ◌-◌, ◌^◌, ◌<◌, ◌≤◌, ◌↔◌, [], ◌++◌, Some, length, take, drop, min, ◌⊎◌, Contains, IfOk, IsTrue, IsErr};
 
 use crate::faults::Failed;
@@ -85,8 +86,8 @@ impl MemorySource {
     }
 }
 
-// Copies bytes to the start of `into`, beginning with the byte at the index `at`: as many as are left and fit, but at most
-// `step`. Moves `at` past the copied bytes, and returns their number.
+// Copies the bytes from the index `at` on to the start of `into`: as many as there are and fit, but at most `step`. Moves `at`
+// past the copied bytes, and returns their number.
 pub(crate) fn give(bytes: &[u8], at: &mut usize, step: usize, into: &mut [u8]) -> usize
     requires in_range { at.old ≤ length bytes.now }
     requires moves { 0 < step }

@@ -10,7 +10,7 @@ use crate::faults::{Failed, WriteFault};
 
 /// Where bytes are written to, such as a file.
 pub trait Sink {
-    /// The bytes that were written, where they are known.
+    /// The bytes that were written, or `None` if contracts don't know them.
     ghost held: { Self → Option (List ℕ) };
 
     /// How many writes have failed. The count stops at 2^64 - 1.

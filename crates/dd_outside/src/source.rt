@@ -11,7 +11,7 @@ use std::alloc::{AllocError, Global};
 
 /// Where bytes are read from, such as a file.
 pub trait Source {
-    /// The bytes that are left to read, where they are known.
+    /// The bytes that are left to read, or `None` if contracts don't know them.
     ghost left: { Self → Option (List ℕ) };
 
     /// How many reads have failed. The count stops at 2^64 - 1.
@@ -34,7 +34,7 @@ pub trait Source {
 // The most bytes that one read asks for.
 const READ_SIZE: usize = 65536;
 
-// A buffer of zeros.
+// A buffer of `size` zeros.
 fn buffer_of(alloc: Global, size: usize) -> Result<Vec<u8>, AllocError>
     ensures { IfOk result (λ buffer. length buffer.items ≡ size) }
 {
@@ -61,10 +61,11 @@ fn read_on<S: Source>(
     Ok(count)
 }
 
-/// Reads a source to its end. At most `limit + 1` bytes are taken from it.
+/// Reads a source to its end and returns the bytes. At most `limit + 1` bytes are taken from it. `limit` must be less than
+/// 2^64 - 1.
 ///
 /// # Errors
-/// - `ReadFault` if a read failed. The bytes read before are lost.
+/// - `ReadFault` if a read failed. Then the bytes read before are lost.
 /// - `TooLong` if the source gave more bytes than the limit.
 /// - `Memory` if memory ran out. Then it isn't known whether one of the other two errors would have occurred.
 pub fn read_all<S: Source>(

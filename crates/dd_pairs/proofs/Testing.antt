@@ -9,7 +9,7 @@ use Rattle.dd_pairs.specs.declared.pair.Pair.{Pair}
 use Rattle.dd_pairs.specs.Comparisons.{ComparisonOf, premise, goal_of, pair_of, IsComparisonOf, IsPair, difference}
 use Rattle.dd_pairs.specs.{Faults.limit_of, Faults.pair_faults, Faults.comparison_faults, Faults.earliest, lemmas.ComparisonLaws.comparison_fits}
 
--- what is asked about the pair is the question of the comparison
+-- what is asked about the pair is the question of the comparison, and this question is well formed
 module _ (s : Setting) (c : ComparisonOf) (pair : Pair) (x : LocalRule) (a : Asked) (made : pair ≡ pair_of s c) (is : x ≡ premise c) (asks : a ≡ box x (difference x pair)) where
   pub question_is : a ≡ box (premise c) (goal_of s c)
   question_is = asks ∙ (ap (λ q. box x (difference x q)) made ∙ ap (λ y. box y (difference y (pair_of s c))) is)

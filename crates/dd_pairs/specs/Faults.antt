@@ -22,7 +22,7 @@ abbrev pub guard_faults : Setting → ComparisonOf → List Fault
 guard_faults s (image x f y) = over (nat_lt most_nested (guarded_depth s.sets y)) Limit.Depth
 guard_faults s (change x f g) = []
 
--- the fault of `guard_faults`, and then the limits that the counts of the pair's left automaton exceed
+-- the fault of `guard_faults`, and then the limits on instances, reach and depth that the pair's left automaton exceeds
 abbrev pub pair_faults : Setting → ComparisonOf → List Fault
 pair_faults s c = guard_faults s c ++ count_faults s.topology.nodes (counted (pair_of s c).left)
 

@@ -15,8 +15,8 @@ pub struct Pair {
     pub right: Automaton,
 }
 
-/// Does nothing. Its contract says that the automaton reads only cells of the lattice, and that the gates compiled for its value
-/// compute that value.
+/// Does nothing. Its contract says that the automaton reads only cells of the lattice, and that the gates that `dd_compile`
+/// makes for its value at a cell compute that value.
 fn has_gates(automaton: &Automaton)
     ensures { HasGates automaton.now }
 {
@@ -56,8 +56,9 @@ impl Pair {
     }
 }
 
-/// The conjugacy of two rules by a map from `from` to `to` and a map back. Its four pairs are, in order, for the image under
-/// the map, for the image under the map back, for the map followed by the map back, and for the map back followed by the map.
+/// The two rules, and the four goals of the question whether a map from `from` to `to` and a map back are inverse to each
+/// other. There must be four pairs. They are, in order, for the image under the map, for the image under the map back, for the
+/// map followed by the map back, and for the map back followed by the map.
 pub fn conjugacy<'a>(from: &'a Rule, to: &'a Rule, pairs: &'a [Pair]) -> Conjugacy<'a>
     requires { length pairs.now ≡ 4 }
     ensures { IsConjugacyBy from.now to.now pairs.now result }

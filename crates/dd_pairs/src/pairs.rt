@@ -20,7 +20,7 @@ use dd_query::Query;
 use dd_values::Items;
 use std::alloc::Global;
 
-/// The pair that a comparison asks about, or the first limit that its automata exceed.
+/// The pair that a comparison asks about. The error is the first limit that the pair exceeds, or a lack of memory.
 fn pair(alloc: Global, setting: &Setting, comparison: Comparison) -> Result<Pair, Refusal>
     requires sound { IsSetting setting.now }
     requires two { 2 ≤ length setting.now.symbols }
@@ -45,8 +45,8 @@ fn pair(alloc: Global, setting: &Setting, comparison: Comparison) -> Result<Pair
     }
 }
 
-/// The pair that a comparison asks about, if neither its automata nor the question about it exceeds a limit. Otherwise the first
-/// limit that the automata exceed; or if they exceed none, the limit on clauses, which the question exceeds.
+/// The pair that a comparison asks about. The error is the first limit that the pair exceeds or, if it exceeds none, the limit
+/// on clauses, which the question about the pair exceeds. A lack of memory is an error, too.
 fn tested(alloc: Global, known: &Known, comparison: Comparison) -> Result<Pair, Refusal>
     requires sound { IsSound known.now }
     requires two { 2 ≤ length known.now.setting.symbols }
@@ -61,7 +61,7 @@ fn tested(alloc: Global, known: &Known, comparison: Comparison) -> Result<Pair, 
     }
 }
 
-/// The pairs that the comparisons ask about, in order, or the first limit that one of them exceeds.
+/// The pairs that the comparisons ask about, in order. The error is the first one that `tested` gives, or a lack of memory.
 fn made(alloc: Global, known: &Known, comparisons: &[Comparison]) -> Result<Items<Pair>, Refusal>
     requires sound { IsSound known.now }
     requires two { 2 ≤ length known.now.setting.symbols }

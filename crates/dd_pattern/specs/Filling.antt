@@ -4,7 +4,7 @@ use Rattle.std.specs.{List.All, List.Contains, List.position_or_len, List.Sorted
 use Rattle.dd_lattice.specs.{declared.position.Cell.Cell, Order.cell_cmp}
 use Rattle.dd_pattern.specs.Reading.{Look, HasSymbolsBelow}
 
--- a list of cells, and the list of their symbols in the same order
+-- a list of cells, called the domain, and the list of their symbols in the same order
 pub record Filled : Type 0 where
   pub cells : List Cell
   pub symbols : List ℕ
@@ -12,7 +12,7 @@ pub record Filled : Type 0 where
 abbrev pub filled : List Cell → List ℕ → Filled
 filled cs ss = record { cells = cs; symbols = ss }
 
--- the cells are in cell order, and each has one symbol
+-- the cells are strictly ascending in cell order, and each has one symbol
 pub record IsFilling (f : Filled) : Type 0 where
   pub ascending : IsStrictlySortedBy cell_cmp f.cells
   pub as_many : length f.symbols ≡ length f.cells

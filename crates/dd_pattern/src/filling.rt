@@ -57,7 +57,8 @@ impl Filling {
         self.symbols.as_slice()
     }
 
-    /// The filling restricted to these cells, which must be strictly ascending. `None` if one of them isn't in the domain.
+    /// The filling restricted to these cells, which must be strictly ascending in cell order. `None` if one of them isn't in
+    /// the domain.
     pub fn restrict(&self, alloc: Global, cells: &[Cell]) -> Result<Option<Filling>, AllocError>
         requires { IsStrictlySortedBy cell_cmp cells.now }
         ensures { IfOk result (λ found. MatchOption found (IsWanting self.now cells.now) (IsRestriction self.now cells.now)) }

@@ -78,14 +78,15 @@ impl PartialOrd for Periods {
     }
 }
 
-/// The greatest period along an axis: `most` if the axis is one of the first `dim`, else 1.
+/// The greatest period along an axis: `most` if the axis is one of the first `dim`, else 1. The axes are numbered from 0.
 fn most_along(dim: u32, axis: u32, most: u32) -> u32
     ensures { result ≡ most_along dim axis most }
 {
     if axis < dim { most } else { 1 }
 }
 
-/// Adds to the set the periods with these `x`, `y` and `z`, and every possible shear.
+/// Adds to the set the periods with these `x`, `y` and `z`, and every possible shear. In one dimension the shear is 0, and
+/// otherwise it is less than `x`.
 fn add_shears(
     found: &mut BTreeSet<Periods>,
     dim: u32,

@@ -25,7 +25,7 @@ pub spread_most : (b : Bool) (n : ℕ) → spread b n ≤ n
 spread_most true n = omega arith
 spread_most false n = omega arith
 
--- the box lies in the range of positions
+-- the positions of the box are in range
 pub box_in_range : (d n : ℕ) (p : Place) → n ≤ 1048576 → IsWithin (centred d n) p → IsInRange p
 box_in_range d n p small h =
     let x = spread_most (is_active d 0) n in
@@ -51,7 +51,7 @@ radius_small x g n rule few =
     let positions = positions_below x g (volume (centred x.dimension n)) rule.nodes.0 in
     omega (arith, wide, positions, few)
 
--- the box is made
+-- the call that makes the box succeeds
 pub box_made : (x : LocalRule) (g : GoalOf) (n : ℕ) (o : Option Bounds) → IsRule x → question_clauses x g (volume (centred x.dimension n)) ≤ most_clauses →
     o ≡ (if nat_le n 1048576 then Some (centred x.dimension n) else None) → o ≡ Some (centred x.dimension n)
 box_made x g n o rule few is = is ∙ ap (λ b. if b then Some (centred x.dimension n) else None) (le-leb n 1048576 (radius_small x g n rule few))
@@ -71,7 +71,7 @@ not_both : (b : Bool) → b ≡ true → b ≡ false → ⊥
 not_both true h k = cc
 not_both false h k = cc
 
--- the wires of the box's cells
+-- the cells of the box have the wires of their inputs, and other cells have none
 box_wire : (x : LocalRule) (n : ℕ) → IsRule x → (c : Cell) (s : ℕ) → s < x.symbols →
     wire_of (in_turn x.symbols (box_cells x n)) c s ≡ cond (is_box_cell x n c) (Some (signal_of (input x.symbols (box_index x n c) s))) None
 box_wire x n rule c s below =

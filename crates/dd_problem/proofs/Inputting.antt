@@ -10,7 +10,7 @@ use Rattle.dd_compile.specs.Wiring.{Wiring, with_cell}
 use Rattle.dd_pattern.specs.Tile.{Tile}
 use Rattle.dd_problem.specs.pushing.{Near.number_at, Numbered.symbol_signals, Numbered.numbered_wiring}
 
--- the inputs of the first cells
+-- the inputs of the first i cells
 abbrev pub first_numbered : ℕ → List Cell → List ℕ → ℕ → Wiring
 first_numbered m cells numbers i = numbered_wiring m (take i cells) (take i numbers)
 

@@ -20,7 +20,7 @@ use Rattle.dd_problem.specs.pushing.Pushed.{are_both_wired, is_wired_at, is_goal
 use Rattle.dd_problem.specs.lemmas.{RangesLeft.row_within, Reading.IsLayout, Wiring.HasReads}
 use Rattle.dd_values.specs.lemmas.Booleans.{same_bool}
 
--- the wires of each cell that passes the test p, relative to v, are the layout's inputs; there are none if the layout does not have the cell
+-- For each cell c, relative to v, that passes the test p: its wires are its inputs if the layout has it, and it has no wires otherwise.
 abbrev pub Gives : Wiring → Layout → ℕ → (Cell → Bool) → Place → Type 0
 Gives w l m p v = (c : Cell) (s : ℕ) → p c ≡ true → s < m → wires_near w v c s ≡ cond (l.has (shifted v c)) (Some (wire l m v c s)) None
 
@@ -77,7 +77,7 @@ module _ (w : Wiring) (l : Layout) (m : ℕ) (p : Cell → Bool) (v : Place) (la
   made_there e ask h =
       λ i n. made_same e (λ c s. there c s && asked p m c s) (certain (wires_near w v)) (wire l m v) n same_wire (leaves_both e there (asked p m) ∙ and_from _ _ h ask) i
 
--- the leaves of a rule at a node ask for its symbols, at the cells that it reads
+-- if the cells that a rule reads at a node pass the test p, so do the cells of its leaves there; and the leaves' symbols are in the alphabet
 asks : (r : LocalRule) (m : ℕ) (p : Cell → Bool) (a : ℕ) → IsRule r → m ≡ r.symbols → a < r.nodes → list_all p (reads_at r a) ≡ true → leaves_pass (asked p m) (expansion_at r a) ≡ true
 asks r m p a ok same node reads =
     leaves_both (expansion_at r a) (λ c s. p c) (λ c s. nat_lt s m)
@@ -87,7 +87,7 @@ asks r m p a ok same node reads =
 reads_there : (l : Layout) (r : LocalRule) (d : Cell) → IsRule r → leaves_pass (λ c s. l.has (shifted d.position c)) (expansion_at r d.node) ≡ list_all (λ c. l.has (shifted d.position c)) (reads_at r d.node)
 reads_there l r d ok = leaves_are_reads r.edges r.symbols ok.symbols.0 r.formula (origin_at d.node ∷ []) (λ c. l.has (shifted d.position c))
 
--- The cells that the rule reads at d pass the test p. The wires of the cells that pass it, relative to d, are the layout's inputs.
+-- The cells that the rule reads at d pass the test p. The wires of the cells that pass it, relative to d's position, are as `Gives` says.
 pub record Matches (w : Wiring) (l : Layout) (m : ℕ) (p : Cell → Bool) (r : LocalRule) (d : Cell) : Type 0 where
   pub node : d.node < r.nodes
   pub gives : Gives w l m p d.position
@@ -108,7 +108,7 @@ kept_same : (a b : Cell → Part) (d : Cell) (t u : Bool) (ds es : List Cell) �
 kept_same a b d t true ds es test here rest = rw test (λ i. here refl i ∷ rest i)
 kept_same a b d t false ds es test here rest = rw test rest
 
--- the premise at all places
+-- if at each cell the wires and the layout give the same part of the premise, or both give none, they give the same parts
 parts_same : (w : Wiring) (l : Layout) (x : LocalRule) (n : ℕ) (cells : List Cell) →
     ((k : ℕ) (d : Cell) → slice_get cells k ≡ Some d → (is_wired_at w n x d ≡ fits_in l x d) × (fits_in l x d ≡ true → wired_part w x d ≡ premise_part l x d)) →
     wired_parts w n x cells ≡ map (premise_part l x) (filter (fits_in l x) cells)
@@ -122,7 +122,7 @@ range_same : {X : Type 0} (f g : ℕ → X) (n a : ℕ) → ((k : ℕ) → k < a
 range_same f g zero a h = refl
 range_same f g (suc n) a h = λ i. h a (omega arith) i ∷ range_same f g n (a + 1) (λ k below. h k (omega arith)) i
 
--- the goal at the origin
+-- the wires of what the goal reads at the origin are the layout's inputs
 abbrev pub GoalMatches : Wiring → Layout → ℕ → (Cell → Bool) → GoalOf → Type 0
 GoalMatches w l m p (breaks y) = (a : ℕ) → a < y.nodes → Matches w l m p y (cell origin a)
 GoalMatches w l m p (differ s f g) = w ≡ l.inputs

@@ -14,7 +14,7 @@ use Rattle.dd_problem.specs.{Layouts.cells_in, pushing.Near.read_cells, pushing.
 use Rattle.dd_problem.specs.lemmas.Filtered.{some_same}
 use Rattle.dd_problem.proofs.{TorusInputs.sum_in_range, TorusReach.facts_near, TorusReach.radius_is}
 
--- a position at most 16 from the origin can be moved by a position well within the range
+-- a position at most 16 from the origin can be moved by a position that is at least 16 from the border of the range
 pub sum_there : (p v : Place) (o : Option Place) → extent p ≤ 16 → extent v ≤ 1048560 → o ≡ (if is_in_range (moved p v) then Some (moved p v) else None) → o ≡ Some (moved p v)
 sum_there p v o near wide is = is ∙ ap (λ b. if b then Some (moved p v) else None) (test_from_in_range (moved p v) (sum_in_range p v near wide))
 

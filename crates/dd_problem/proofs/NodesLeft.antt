@@ -115,7 +115,7 @@ node_step maker count turn node start now new literals lits m s l p h is added s
           ∙ (ap (λ e. with_gates e rest.gates) (sym added) ∙ ap (λ o. with_gates new (nodes_made maker count (node + 1) o).gates) (sym n))));
     }
 
--- the literal of a signal of the circuit is in range, and so is its negation
+-- the literal of a signal of the circuit is over the circuit's variables, and so is its negation
 pub false_in_range : (n : ℕ) (s : Signal) (o l : Literal) → IsSignal n s → o ≡ literal_of s → l ≡ negation o → (l ≡ opposing s) × IsLiteralInRange n l
 false_in_range n s o l ok positive negated =
     let var : l.variable ≡ s.variable = ap (λ (k : Literal). k.variable) (negated ∙ ap negation positive) in

@@ -16,7 +16,7 @@ use Rattle.dd_problem.specs.Encodings.{Encoding, with_clause, with_gates, with_m
 use Rattle.dd_problem.specs.pushing.Pushed.{AreInputs, is_wired_at, wired_part, wired_parts}
 use Rattle.dd_problem.specs.lemmas.Growing.{same_encoding, extended_size, extended_by_none, with_parts-append}
 
--- a wire with one of the first n variables has one of the first m, if m is not smaller
+-- if the wire, where there is one, has one of the first n variables, `is_wire` says the same for n and for each m that is not smaller
 wire_same : (n m : ℕ) (o : Option Signal) → ((s : Signal) → o ≡ Some s → IsSignal n s) → n ≤ m → is_wire m o ≡ is_wire n o
 wire_same n m None within more = refl
 wire_same n m (Some s) within more =
@@ -103,7 +103,7 @@ places_done w x cells i start now p h =
 pub nothing_added : (w : Wiring) (x : LocalRule) (now : Encoding) (d : Cell) → is_wired_at w now.circuit.inputs x d ≡ false → now ≡ with_parts now (wired_parts w now.circuit.inputs x (d ∷ []))
 nothing_added w x now d none = sym (ap (with_parts now) (skipped w now.circuit.inputs x d none) ∙ extended_by_none now)
 
--- the gates of a place with their clauses, and the clause that says that its signal is true
+-- the part of a place: its gates with their clauses, and then the clause that says that its signal is true
 pub place_done : (w : Wiring) (x : LocalRule) (d : Cell) (start now last : Encoding) (s : Signal) (l : Literal) → now ≡ with_made start (compiled w d.position (expansion_at x d.node)) →
     s ≡ (compiled w d.position (expansion_at x d.node) (size start.circuit)).signal → l ≡ literal_of s → last ≡ with_clause now (l ∷ []) → last ≡ with_parts start (wired_part w x d ∷ [])
 place_done w x d start now last s l made signal literal pushed =

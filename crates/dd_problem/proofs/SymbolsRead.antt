@@ -18,7 +18,7 @@ equal_from a b h = grind arith
 equal_itself : (a : ℕ) → (a == a) ≡ true
 equal_itself a = grind arith
 
--- the input of a symbol, as a place in the list of values
+-- the value of the input of a symbol, by its index in the list of values
 pub input_value : (values : List Bool) (m k t at : ℕ) → at ≡ k * m + t → true_variables values (input m k t) ≡ slice_index_or values at false
 input_value values m k t at is = let e : suc (k * m + t) - 1 ≡ at = omega arith in ap (λ j. slice_index_or values j false) e
 

@@ -1,4 +1,4 @@
--- The inputs of the cells that are read at a fundamental box's cells are those of the torus.
+-- On a torus, what the premise reads at the cells of the fundamental box, and what the goal reads at the origin, has the layout's inputs.
 use Rattle.std.proofs.Common.{◌≡◌, ℕ, ◌<◌, ◌≤◌, ◌*◌, Bool, true, List, map, length, refl, ap, sym, subst, ◌∙◌, arith, Some, None, ℤ, ◌+ℤ◌, if◌then◌else◌, option_map}
 use Rattle.std.proofs.lemmas.{Int.ints, Bool.and_parts, Bool.ltb-true, Bool.lt-ltb, Bool.leb-true}
 use Rattle.std.proofs.lemmas.List.{length-map, Elements.All-contains}
@@ -30,10 +30,10 @@ use Rattle.dd_problem.proofs.BoxInputs.{box_in_range}
 use Rattle.dd_problem.proofs.NearCells.{is_one_of, contained_one_of, all_are_some, near_ascends, near_has_read, near_has_box}
 use Rattle.dd_problem.proofs.{Templating.torus_near, TorusReach.facts_near, TorusReach.facts_reach}
 
--- a position is in range if it is near one that lies well within the range
 axis_in_range : (a b : ℤ) → unsigned_abs a ≤ 16 → unsigned_abs b ≤ 1048560 → IsCoordinateInRange (a +ℤ b)
 axis_in_range a b near wide = (omega (arith, ints), omega (arith, ints))
 
+-- a position at most 16 from the origin, moved by one that is at least 16 from the border of the range, is in range
 pub sum_in_range : (p v : Place) → extent p ≤ 16 → extent v ≤ 1048560 → IsInRange (moved p v)
 sum_in_range p v near wide = (axis_in_range p.x v.x (omega arith) (omega arith), axis_in_range p.y v.y (omega arith) (omega arith), axis_in_range p.z v.z (omega arith) (omega arith))
 
@@ -56,7 +56,7 @@ module _ (x : LocalRule) (periods : Periods) (rule : IsRule x) (ok : AreTorusPer
   abbrev numbers : Tile
   numbers = numbered_tile x periods
 
-  -- a cell that has inputs
+  -- a cell that `near_cells` lists, so that it has signals; its node is one of the rule's, and its position is in range
   record IsNear (c : Cell) : Type 0 where
     listed : Contains near c
     node : c.node < x.nodes
@@ -106,7 +106,7 @@ module _ (x : LocalRule) (periods : Periods) (rule : IsRule x) (ok : AreTorusPer
         reads = all_are_some (reads_at x d.node);
       }
 
-  -- what the goal reads at the origin
+  -- the radius of a box that holds what the goal reads at the origin
   abbrev n : ℕ
   n = goal_reach g
 
@@ -134,13 +134,13 @@ module _ (x : LocalRule) (periods : Periods) (rule : IsRule x) (ok : AreTorusPer
     goal_of (differ s f h) fits reach = refl
     goal_of always fits reach = tt
 
-  -- what automata read at the origin
   near_signals : (c : Cell) → IsNear c → signals_of (numbered_by x.symbols numbers near) c ≡ Some (symbol_signals x.symbols (tile_index (torus x periods) c))
   near_signals c is =
       let at = listed_at c is.listed in
       signals_there x.symbols near (map (number_at numbers) near) (near_ascends x g (torus_cells x periods)) (length-map near (number_at numbers)) c is.listed.0 (tile_index (torus x periods) c) at
       (number_there c is.listed.0 at is.node)
 
+  -- what automata read at the origin has its inputs
   value_has : (s : CommonNumbers) (f h : Automaton) (ds : List Cell) → AreOver x s f h → list_all (is_cell_within s n) ds ≡ true → (d : Cell) → Contains ds d →
       HasInputs (torus_layout x g periods) s.symbols (shifted origin d)
   value_has s f h ds over reach d there =

@@ -1,4 +1,5 @@
--- Clauses that say that each cell has one symbol, which its node allows, and clauses over the signals of gates.
+-- Clauses that say that each cell has one symbol, which its node allows, and clauses over the signals of gates. The comment of a list of clauses is
+-- what the clauses say.
 use Rattle.std.specs.Prelude.{ℕ, suc, ◌+◌, ◌*◌, true, false, List, [], ◌∷◌, ◌++◌, map, length}
 use Rattle.std.specs.List.{flat_map, enumerate_from, range_with_len}
 use Rattle.dd_lattice.specs.declared.position.Cell.{Cell}
@@ -41,9 +42,9 @@ clauses_from x first cells = flat_map (λ numbered. symbol_clauses x numbered.0 
 abbrev pub cell_clauses : LocalRule → List Cell → List (List Literal)
 cell_clauses x cells = clauses_from x 0 cells
 
--- A problem is the clause list of a question. After the clauses of its cells come those of its parts. A part has makers. A maker
--- gives a signal and its gates, from the number of variables before these gates. The clauses of a part are those of its gates,
--- and then those that `tail` gives for its makers' signals.
+-- A problem is the clause list of a question. After the clauses of its cells come those of its parts. A part has makers. A
+-- maker is a function: from the number of variables so far, it gives a signal and the gates that are added for it. The clauses
+-- of a part are those of its gates, and then those that `tail` gives for its makers' signals.
 pub record Part : Type 0 where
   pub makers : List Maker
   pub tail : List Signal → List (List Literal)

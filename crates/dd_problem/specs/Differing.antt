@@ -1,4 +1,5 @@
--- The gates that say whether the values of two automata at a cell are different.
+-- The gates that say whether the values of two automata at a cell are different. The signals of a value say of each symbol whether it is the
+-- value.
 use Rattle.std.specs.Prelude.{ℕ, ◌+◌, List, [], ◌∷◌, ◌++◌, length}
 use Rattle.dd_lattice.specs.declared.position.Cell.{Cell}
 use Rattle.dd_formula.specs.declared.automaton.Automaton.{Automaton}
@@ -6,7 +7,7 @@ use Rattle.dd_circuit.specs.declared.gates.{Signal.Signal, Gate.Gate}
 use Rattle.dd_circuit.specs.{declared.gates.Gate.TheVariants.And, declared.gates.Gate.TheVariants.Or, Circuits.opposite}
 use Rattle.dd_compile.specs.{Wiring.Wiring, Compiling.Maker, Compiling.then_gate, ValueGates.fresh, ValueGates.value_made}
 
--- for each symbol, a gate that says that this symbol is the first value and not the second
+-- from the signals of two values: for each symbol, a gate that says that this symbol is the first value and not the second
 abbrev pub apart : List Signal → List Signal → List Gate
 apart [] ys = []
 apart (x ∷ xs) [] = []

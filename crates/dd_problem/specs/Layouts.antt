@@ -35,7 +35,7 @@ box_index x n c = index_in (centred x.dimension n) c.position * x.nodes + c.node
 abbrev pub box_layout : LocalRule → ℕ → Layout
 box_layout x n = record { has = is_box_cell x n; index = box_index x n; places = box_cells x n; inputs = in_turn x.symbols (box_cells x n) }
 
--- the torus, as a configuration without symbols
+-- a configuration without symbols, which serves to number the cells of the torus
 abbrev pub torus : LocalRule → Periods → Tile
 torus x periods = tile x.dimension periods x.nodes []
 
@@ -43,6 +43,6 @@ torus x periods = tile x.dimension periods x.nodes []
 abbrev pub torus_cells : LocalRule → Periods → List Cell
 torus_cells x periods = cells_in (fundamental periods) x.nodes
 
--- each cell that the rule reads at the cell d has inputs
+-- the rule fits at the cell d: each cell that it reads there has inputs
 abbrev pub fits_in : Layout → LocalRule → Cell → Bool
 fits_in l x d = list_all (λ c. l.has (shifted d.position c)) (reads_at x d.node)

@@ -19,18 +19,18 @@ wire l m v c s = signal_of (input m (l.index (shifted v c)) s)
 abbrev pub place_maker : Layout → ℕ → LocalRule → Cell → Maker
 place_maker l m r d = made (wire l m d.position) (expansion_at r d.node)
 
--- the rule is true at the cell
+-- the part that says that the rule is true at the cell
 abbrev pub premise_part : Layout → LocalRule → Cell → Part
 premise_part l x d = record { makers = place_maker l x.symbols x d ∷ []; tail = units }
 
--- the goal holds at the origin
+-- the part that says that the goal holds at the origin
 abbrev pub goal_part : Layout → ℕ → GoalOf → Part
 goal_part l m (breaks y) = record { makers = map (λ a. place_maker l m y (cell origin a)) (range_with_len 0 y.nodes); tail = some_false }
 goal_part l m (differ s f g) =
     record { makers = map (λ a. differ_made s.symbols f g l.inputs (cell origin a)) (range_with_len 0 s.nodes); tail = some_true }
 goal_part l m always = record { makers = []; tail = λ _. [] }
 
--- the premise at each cell where all that the premise reads has inputs, in the order of the cells, and then the goal
+-- the parts of a problem: one for each of the places where the premise fits, in the order of the places, and then that of the goal
 abbrev pub problem_parts : Layout → LocalRule → GoalOf → List Part
 problem_parts l x g = map (premise_part l x) (filter (fits_in l x) l.places) ++ goal_part l x.symbols g ∷ []
 

@@ -1,4 +1,5 @@
--- The symbols of the cells of a layout, by the cells' numbers, and the inputs that stand for them. `set` is an assignment.
+-- The symbols of the cells of a layout, by the cells' numbers, and the inputs that stand for them. `set` is an assignment. A look-up gives cells
+-- their symbols.
 use Rattle.std.specs.Prelude.{ℕ, ◌≡◌, ◌<◌, ◌==◌, Bool, true, List, Some, None, cond, length, slice_get, slice_index, slice_index_or}
 use Rattle.std.specs.List.{All}
 use Rattle.dd_lattice.specs.declared.position.Cell.{Cell}
@@ -17,7 +18,7 @@ pub record AreSymbols (x : LocalRule) (cells : List Cell) (symbols : List ℕ) :
 abbrev pub AreRead : (ℕ → Bool) → ℕ → List ℕ → Type 0
 AreRead set m symbols = (k s : ℕ) → k < length symbols → s < m → set (input m k s) ≡ is_symbol s (slice_get symbols k)
 
--- each cell of the layout has the symbol that stands at its number in the list
+-- the look-up that gives each cell with inputs the symbol that stands at its number in the list, and the other cells none
 abbrev pub layout_look : Layout → List ℕ → Look
 layout_look l symbols c = cond (l.has c) (slice_get symbols (l.index c)) None
 

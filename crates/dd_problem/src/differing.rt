@@ -17,9 +17,8 @@ use dd_formula::{Automaton, Rule};
 use dd_lattice::{Cell, Position};
 use std::alloc::{AllocError, Global};
 
-/// For each symbol, adds a gate that says that this symbol is the first value and not the second. Returns the gates' signals.
-/// `first` holds, for each symbol, the signal that says that this symbol is the first value, and `second` likewise for the
-/// second value.
+/// The signals of a value say of each symbol whether it is the value. `first` and `second` are the signals of two values. For
+/// each symbol, adds a gate that says that this symbol is the first value and not the second. Returns the gates' signals.
 fn compile_apart(
     circuit: &mut Circuit,
     alloc: Global,

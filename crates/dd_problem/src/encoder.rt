@@ -47,8 +47,8 @@ impl Model for Encoder {
     ghost invariant = { λ e. e.cnf.variables ≡ size_of e.circuit.inputs e.circuit.gates };
 }
 
-/// Gives the clause list as many variables as the circuit has. If `made` is a signal, also adds the clauses of all gates except
-/// the first `before` gates, and returns the signal.
+/// Gives the clause list as many variables as the circuit has. If `made` is an error, returns this error. If `made` is a
+/// signal, adds the clauses of all gates except the first `before` gates, and returns the signal.
 fn push_made(
     alloc: Global,
     cnf: &mut Cnf,
@@ -104,8 +104,8 @@ impl Encoder {
         push_clause(self.alloc, &mut self.cnf, literals)
     }
 
-    /// Adds the gates of a formula at the position `at`, and the clauses of these gates. The formula's cells are relative to `at`.
-    /// Returns the signal that says whether the formula is true. If memory runs out, some gates and clauses may have been added.
+    /// Adds the gates of an expansion whose cells are relative to the position `at`, and the clauses of these gates. Returns
+    /// the signal that says whether the expansion is true. If memory runs out, some gates and clauses may have been added.
     pub(crate) fn push_formula(
         &mut self,
         expanded: &Expanded,

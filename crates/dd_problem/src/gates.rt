@@ -1,5 +1,4 @@
-//! Gates and clauses for a rule, at the cells where all that the rule reads has inputs, and for a goal, at the origin. A
-//! template has the gates of a rule at one of its nodes. They are made once, and placed at that node of any position.
+//! Gates and clauses for a rule, at the cells where all that the rule reads has inputs, and for a goal, at the origin.
 ghost use Rattle.std.specs.Prelude.{◌≡◌, ◌≤◌, ◌<◌, ◌+◌, ◌-◌, ◌∷◌, ℕ, [], true, map, All, IfOk, OnOk};
 ghost use Rattle.std.specs.List.{range_with_len};
 ghost use Rattle.dd_values.specs.Bounds.{most_variables};

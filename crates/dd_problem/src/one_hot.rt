@@ -121,8 +121,8 @@ fn push_cell(
     push_disallowed(alloc, cnf, premise, number, node)
 }
 
-/// Adds the clauses that say that each of the cells has one symbol, which its node allows. If memory runs out, some of these
-/// clauses may have been added.
+/// Adds the clauses that say that each of the cells has one symbol, which its node allows. The number of a cell is its index in
+/// `cells`, from 0. If memory runs out, some of these clauses may have been added.
 pub(crate) fn push_cells(
     alloc: Global,
     cnf: &mut Cnf,

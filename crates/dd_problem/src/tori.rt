@@ -74,7 +74,7 @@ fn shifted(cell: &Cell, by: &Position) -> Cell
     }
 }
 
-/// Appends the cells, moved by the position `by`.
+/// Appends the cells, moved by the position `by`, to `found`.
 fn push_shifted(found: &mut Vec<Cell>, by: &Position, cells: &[Cell]) -> Result<(), AllocError>
     requires near { list_all is_near cells.now ≡ true }
     requires by { extent by.now ≤ most_coordinate - 16 }
@@ -116,7 +116,7 @@ fn near_cells(
 }
 
 /// Inputs for the cells. `numbers` is a configuration that gives each cell a number in place of a symbol. The inputs of a cell
-/// are the signals of its number.
+/// with the number `k` are the variables `1 + k * symbols + s`, one for each symbol `s`.
 fn inputs_by_number(
     alloc: Global,
     cells: &[Cell],
@@ -184,9 +184,11 @@ fn torus_inputs(
 }
 
 /// The clauses that ask for a configuration of these periods and this shear that lives in the premise's subshift and has the
-/// goal at the origin. The cells of the fundamental box are numbered from 0 in cell order. If the alphabet has `symbols`
-/// symbols, the variable `1 + k * symbols + s` says that the cell with the number `k` has the symbol `s`. The variables of the
-/// gates follow.
+/// goal at the origin. The periods along x, y and z must be at least 1; those of axes past the dimension must be 1. The shear
+/// must be less than the first period, and 0 in one dimension. The fundamental box must have at most 65,536 cells. A bound on
+/// the number of clauses, `question_clauses` of `dd_boxes`, must be at most 2,000,000. The cells of the fundamental box are
+/// numbered from 0 in cell order. If the alphabet has `symbols` symbols, the variable `1 + k * symbols + s` says that the cell
+/// with the number `k` has the symbol `s`. The variables of the gates follow.
 ///
 /// # Errors
 /// `AllocError` if memory ran out.

@@ -52,7 +52,8 @@ fn symbols_read(
 }
 
 /// The configuration of these periods and this shear in which each cell of the fundamental box has the symbol whose input is
-/// true. Exactly one input of each of these cells must be true, as in every assignment that satisfies the torus's clauses.
+/// true. The periods and the shear must be as for `torus_clauses`. Exactly one input of each of these cells must be true, as in
+/// every assignment that satisfies the torus's clauses.
 ///
 /// # Errors
 /// `AllocError` if memory ran out.

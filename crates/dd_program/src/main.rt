@@ -9,7 +9,7 @@ use std::alloc::AllocError;
 use std::process::ExitCode;
 use std::{env, io};
 
-/// The exit code if the arguments can't be read, unless memory ran out. The codes 0 to 7 are those of `Status`.
+/// The exit code if the arguments can't be read for a reason other than lack of memory. The codes 0 to 7 are those of `Status`.
 const NO_WORDS: u8 = 8;
 
 /// The most flips that the engine `Walker` makes each time it is asked. A flip changes the value of one variable.

@@ -1,4 +1,4 @@
--- From 1 to 16 offsets that are all different may be the vectors of a discharge.
+-- Any 1 to 16 different offsets may be the vectors of a discharging query.
 use Rattle.std.proofs.Common.{◌≡◌, ◌≢◌, ℕ, true, List, ap, subst, arith, pos, AllPairs, length, ◌≤◌}
 use Rattle.std.specs.{Bool.Decides, Ordering.is_eq, List.list_all}
 use Rattle.std.proofs.lemmas.{Bool.Decides.nat_tests, Bool.Decides.Decides-int_eq, Cmp.tied_itself, Grind.common_steps, Int.ints}

@@ -1,4 +1,5 @@
--- If no vector of a discharge is given twice, all of them stand for different positions.
+-- The vectors of a discharging query stand for different positions if no vector is given twice, each has an entry for each axis, and no entry is over
+-- 4 in absolute value.
 use Rattle.std.proofs.Common.{◌≡◌, ◌≢◌, ◌<◌, ◌≤◌, ℕ, zero, suc, true, false, List, [], ◌∷◌, ◌++◌, length, map, take, get_or, refl, ap, arith, ℤ, AllPairs, codes, nat_lt}
 use Rattle.std.proofs.lemmas.Bool.{or_parts, eqb-true}
 use Rattle.std.proofs.lemmas.List.{get_or-map, get_or-take, length-map, length-take-le}
@@ -13,7 +14,8 @@ use Rattle.dd_faults.specs.{Commands.entry_value, Commands.has_entries, Commands
 abbrev vector : List Entry → Vector
 vector es = record { entries = es }
 
--- Repeated vectors are found by their keys (see dd_faults). Vectors with the same entries have the same key, if no entry is over 4 in absolute value.
+-- The key of a vector is a text made from its entries, by which dd_faults finds repeated vectors. Vectors whose entries have the same values have the
+-- same key, if no entry is over 4 in absolute value.
 same_key : (bytes : List ℕ) (es fs : List Entry) → length es ≡ length fs → ((axis : ℕ) → axis < length es → coordinate bytes (vector es) axis ≡ coordinate bytes (vector fs) axis) →
     is_far bytes (vector es) ≡ false → is_far bytes (vector fs) ≡ false → vector_key bytes (vector es) ≡ vector_key bytes (vector fs)
 same_key bytes [] [] long is near nearby = refl

@@ -164,7 +164,11 @@ fn asked(alloc: Global, context: &Context, request: &Request) -> Result<Query, A
     })
 }
 
-/// The query with this syntax tree. The syntax tree must have no faults.
+/// The query with this syntax tree. The syntax tree must have the words, numbers and vectors that its kind of query takes, and
+/// no faults.
+///
+/// # Errors
+/// `AllocError` if memory ran out.
 pub fn ask(alloc: Global, context: &Context, request: &Request) -> Result<Query, AllocError>
     requires sound { IsSound context.now.known }
     requires written { IsRequest request.now }

@@ -1,4 +1,4 @@
--- The number of clauses of a question for a least weight, where each step of the count is cut off at the limit.
+-- The count of clauses for a least weight. If each step of the count is cut off at a limit, the result is the whole count, cut off at this limit.
 use Rattle.std.proofs.Common.{◌≡◌, ℕ, ◌+◌, ◌*◌, ap, ◌∙◌, arith}
 use Rattle.dd_formula.specs.{Counts.cut, lemmas.Cuts.cut_times_left, lemmas.Cuts.cut_times_right}
 

@@ -7,11 +7,11 @@ use Rattle.dd_formula.specs.{LocalRule.LocalRule, LocalRule.IsRule, Counts.large
 use Rattle.dd_boxes.specs.{Goals.GoalOf, Goals.IsGoalFor, Goals.KeepsRule, Boxes.goal_reach}
 use Rattle.dd_boxes.specs.Counts.{goal_clauses, most_clauses, IsSmallQuestion}
 
--- how many clauses a box question takes at most, on the largest box or torus that a search may try
+-- an upper bound for the number of clauses of a box question, on the largest box or torus that a search may try
 abbrev pub clauses_of : Limits → LocalRule → GoalOf → ℕ
 clauses_of l x g = largest_clauses x (goal_clauses g) (max l.radius (goal_reach g)) l.period
 
--- the box question takes too many clauses
+-- this bound is greater than `most_clauses`
 abbrev pub is_long : Limits → LocalRule → GoalOf → Bool
 is_long l x g = nat_lt most_clauses (clauses_of l x g)
 

@@ -11,13 +11,13 @@ use Rattle.dd_question.specs.{Boxes.is_long, declared.conjugacy.Conjugacy.Conjug
 pub record ConjugacyOf : Type 0 where
   pub from : LocalRule
   pub to : LocalRule
-  -- the goal of question 1, whose premise is `from`: the map leads out of the second subshift
+  -- the goal of question 1, whose premise is `from`: at the position, the image under the map breaks `to`, or has a symbol that isn't allowed
   pub image : GoalOf
-  -- the goal of question 2, whose premise is `to`: the map back leads out of the first subshift
+  -- the goal of question 2, whose premise is `to`: at the position, the image under the map back breaks `from`, or has a symbol that isn't allowed
   pub image_back : GoalOf
-  -- the goal of question 3, whose premise is `from`: the map, followed by the map back, changes something
+  -- the goal of question 3, whose premise is `from`: the map, followed by the map back, changes a symbol of the position
   pub round : GoalOf
-  -- the goal of question 4, whose premise is `to`: the map back, followed by the map, changes something
+  -- the goal of question 4, whose premise is `to`: the map back, followed by the map, changes a symbol of the position
   pub round_back : GoalOf
 
 -- the four box questions in order, each as its premise and its goal
@@ -35,7 +35,7 @@ pub record EachPart (IsSaid : LocalRule → GoalOf → Type 0) (c : ConjugacyOf)
   pub round : IsSaid c.from c.round
   pub round_back : IsSaid c.to c.round_back
 
--- one of the four box questions takes too many clauses
+-- `is_long` holds for one of the four box questions
 abbrev pub is_some_long : Limits → ConjugacyOf → Bool
 is_some_long l c = list_any (λ (p : LocalRule × GoalOf). is_long l p.0 p.1) (parts c)
 

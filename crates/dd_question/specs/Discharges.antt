@@ -1,5 +1,5 @@
--- Questions about discharges: which radius, margin, vectors and weights they may have. In a discharge, each position first holds
--- its weight, and then gives an amount along each vector.
+-- Questions about discharges: which radius, margin, vectors and weights they may have. In a discharge, each position first holds the weight of its
+-- symbols, and then gives an amount along each vector.
 use Rattle.std.specs.Prelude.{ℕ, ◌≤◌, List}
 use Rattle.dd_values.specs.Bounds.{widest_radius}
 use Rattle.dd_lattice.specs.Place.{Place}

@@ -16,7 +16,8 @@ use Rattle.dd_question.specs.declared.excess.Excess.TheVariants as excess
 use Rattle.dd_question.specs.declared.fault.QuestionFault.TheVariants as fault
 use Rattle.dd_question.specs.declared.question.Question.TheVariants as question
 
--- A question, as contracts see it. In the definitions below, `ws` lists the weights of the symbols, and `vs` the vectors of a discharge.
+-- A question, as contracts see it. In the definitions below, `ws` lists the weights of the symbols, `along` the periods of a torus, and `vs` the
+-- vectors of a discharge.
 pub data Asked : Type 0 where
   -- does the configuration live in the rule's subshift, that is, does it obey the rule at every cell?
   membership : LocalRule → Tile → Asked
@@ -33,15 +34,17 @@ pub data Asked : Type 0 where
   smallest : LocalRule → Asked
   -- are two maps between the subshifts of two rules inverse to each other?
   conjugacy : ConjugacyOf → Asked
-  -- what is the least weight per position of a configuration that obeys the rule and has these periods along the axes after the first?
+  -- what is the least weight per position of a configuration that obeys the rule and has these periods along the second and the third axis, some
+  -- period along the first, and no shear?
   density : LocalRule → List ℕ → List ℕ → Asked
   -- What is the least weight of a configuration that obeys the rule and has these periods, and no shear? The weight of a configuration is that of its
   -- fundamental box, the box that repeats.
   least : LocalRule → List ℕ → List ℕ → Asked
-  -- What is the best lower bound that a discharge shows for the rule's density? Each position first holds its weight. Then, along each of the
-  -- vectors, it gives an amount to the position at the vector's end. A bound is a number such that each position then holds at least this number. To
-  -- find it, the fillings of a finite region are examined. The first number of the question is the radius: the symbols of the box of this radius
-  -- around a position determine what it gives. The second number is the margin: the region is enlarged by this much in every direction.
+  -- What is the best lower bound that a discharge shows for the density (the weight per position) of every configuration that obeys the rule? Each
+  -- position first holds the weight of its symbols. Then, along each of the vectors, it gives an amount to the position at the vector's end. A bound
+  -- is a number such that each position then holds at least this number. To find it, the fillings of a finite region are examined. The first number
+  -- of the question is the radius: the symbols of the box of this radius around a position determine what it gives. The second number is the margin:
+  -- the region is enlarged by this much in every direction.
   discharge : LocalRule → ℕ → ℕ → List Place → List ℕ → Asked
 
 -- the question that a value of the code stands for
@@ -81,8 +84,8 @@ IsFormed (density x strip ws) = IsRule x × IsStrip x strip × HasWeights x ws
 IsFormed (least x along ws) = IsRule x × AreTorusPeriods x.dimension x.nodes (periods_of along 0) × HasWeights x ws
 IsFormed (discharge x radius margin vs ws) = IsRule x × IsDischargeable x radius margin vs ws
 
--- the fault of the first part of the question that doesn't fit those before it; the parts come in the order in which `Asked` lists them, and memory
--- may run out at any part
+-- The fault of the first part of the question that doesn't fit those before it. The parts come in the order in which `Asked` lists them. For a
+-- conjugacy, it is a fault of one of the four box questions. Memory may run out in any test.
 pub data IsPartFault : Asked → QuestionFault → Type 0 where
   configuration_fault : {x : LocalRule} {t : Tile} → ¬ Fits x t → IsPartFault (membership x t) fault.Configuration
   symbols_fault : {x : LocalRule} {t : Tile} → Fits x t → ¬ HasAllowed x t → IsPartFault (membership x t) fault.Symbols

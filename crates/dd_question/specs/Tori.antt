@@ -14,15 +14,15 @@ positions_in along = periods_volume (periods_of along 0)
 abbrev pub cells_in : LocalRule → List ℕ → ℕ
 cells_in x along = positions_in along * x.nodes
 
--- An upper bound for the number of clauses that ask for a fundamental box of weight less than M. Here M is the number of its
--- cells times the greatest of the weights ws; no box weighs more than M. The bound counts the clauses of the torus, those of
--- gates, and one more. For each cell and each weight below M, it counts an And gate of two members for each symbol, and an Or
--- gate over all these And gates.
+-- An upper bound for the number of clauses that ask for a fundamental box of weight less than M. Here M is the number of its cells times the greatest
+-- of the weights ws; no box weighs more than M. The bound counts the clauses of the torus, those of gates that add up the weights, and one that says
+-- that the box weighs less than M. For each cell and each number m below M, it counts an And gate of two signals for each symbol, and an Or gate over
+-- all these And gates. The Or gate says that the cells up to this one weigh more than m.
 abbrev pub weight_clauses : LocalRule → List ℕ → List ℕ → ℕ
 weight_clauses x along ws =
     question_clauses x always (positions_in along) + cells_in x along * (cells_in x along * greatest ws * suc (4 * length ws)) + 1
 
--- the question takes too many clauses
+-- this bound is greater than `most_clauses`
 abbrev pub is_heavy : LocalRule → List ℕ → List ℕ → Bool
 is_heavy x along ws = nat_lt most_clauses (weight_clauses x along ws)
 

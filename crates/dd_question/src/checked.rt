@@ -33,8 +33,8 @@ impl<'a> CheckedQuestion<'a> {
     ghost use Rattle.dd_question.specs.Questions.{asked_of, IsSoundAsked};
     ghost use Rattle.dd_question.specs.Checked.{asked_within, IsChecked};
 
-    /// Returns the checked question for a question that is known to be sound: its parts fit together, and it exceeds no limit.
-    /// The call allocates no memory.
+    /// Returns the checked question for a question that is known to be sound: its parts fit together, and it exceeds no limit
+    /// on its work. The limits of its search must be in range. The call allocates no memory.
     pub fn known(question: Question<'a>, limits: Limits) -> CheckedQuestion<'a>
         requires limits { AreLimits limits }
         requires sound { IsSoundAsked limits (asked_of question) }

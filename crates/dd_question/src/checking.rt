@@ -30,7 +30,7 @@ impl<'a> Question<'a> {
             Question::Equality { left, right } => check_equality(left, right),
             Question::Conjugacy { conjugacy } => check_conjugacy(alloc, &conjugacy),
             Question::Listing { rule } | Question::Smallest { rule } => {
-                // This call tells the proof what the type guarantees.
+                // This call tells the proof what the type `Rule` guarantees.
                 let _nodes = rule.nodes();
                 Ok(())
             }

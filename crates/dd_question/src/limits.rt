@@ -22,8 +22,8 @@ use dd_formula::Rule;
 use dd_values::Limits;
 use std::alloc::{AllocError, Global};
 
-/// Whether the box question with this premise and this goal takes too many clauses, on the largest box or torus that a search may
-/// try.
+/// Whether the upper bound for the clauses of this box question is over `MOST_CLAUSES`. The clauses are those of the largest
+/// box or torus that a search may try.
 fn is_long(alloc: Global, limits: &Limits, premise: &Rule, goal: &Goal) -> Result<bool, AllocError>
     requires limits { AreLimits limits.now }
     requires goal { IsGoalFor premise.now (goal_of premise.now goal.now) }
@@ -41,7 +41,7 @@ fn is_long(alloc: Global, limits: &Limits, premise: &Rule, goal: &Goal) -> Resul
     Ok(clauses > MOST_CLAUSES)
 }
 
-/// Whether one of the four box questions of a conjugacy takes too many clauses.
+/// Whether `is_long` holds for one of the four box questions of a conjugacy.
 fn is_some_long(alloc: Global, limits: &Limits, c: &Conjugacy) -> Result<bool, AllocError>
     requires limits { AreLimits limits.now }
     requires formed { EachPart IsFormedBox (conjugacy_of c.now) }
@@ -66,7 +66,8 @@ fn has_many_patterns(rule: &Rule) -> bool
     false
 }
 
-/// Whether the rule's transfer graph over a strip has too many states or windows. Each slice of the strip has `volume` positions.
+/// Whether the rule's transfer graph over a strip has too many states or windows. Each slice of the strip has `volume`
+/// positions. `Excess::States` says what slices, states and windows are.
 fn has_many_states(rule: &Rule, volume: u32) -> bool
     ensures { result ≡ has_many_states rule.now volume }
 {
@@ -84,7 +85,8 @@ fn strip_volume(strip: [u32; 2]) -> u32
 }
 
 impl Question<'_> {
-    /// The limit on its work that the question exceeds, if any. A box question is answered by a search within the given limits.
+    /// The limit on its work that the question exceeds, if any. The parts of the question must fit together. The work for box
+    /// questions depends on `limits`, the limits of the search, which must be in range.
     ///
     /// # Errors
     /// `AllocError` if memory runs out.

@@ -1,4 +1,4 @@
-//! The measure of a goal: how far it reads, and how many clauses it takes to say that it holds.
+//! The measure of a goal: how far it reads, and how many clauses it takes to say that it holds at the origin.
 ghost use Rattle.std.specs.Prelude.{IfOk};
 ghost use Rattle.dd_formula.specs.Compositions.{HaveNodes};
 ghost use Rattle.dd_boxes.specs.Goals.{breaks, differ, always, IsGoalFor};
@@ -18,7 +18,8 @@ pub const MOST_CLAUSES: u32 = 2_000_000;
 pub(crate) struct Measure {
     /// How far from the origin the goal reads, along any axis.
     pub(crate) radius: u32,
-    /// How many clauses it takes to say that the goal holds, or `MOST_CLAUSES + 1` if there are more than `MOST_CLAUSES`.
+    /// How many clauses it takes to say that the goal holds at the origin, or `MOST_CLAUSES + 1` if there are more than
+    /// `MOST_CLAUSES`.
     pub(crate) clauses: u32,
 }
 

@@ -38,7 +38,7 @@ pub(crate) fn check_member(rule: &Rule, configuration: &Periodic) -> Result<(), 
     ensures ok { OnOk result (IsFormed (asked.membership rule.now configuration.now)) }
     ensures fault { IfErr result (IsPartFault (asked.membership rule.now configuration.now)) }
 {
-    // These calls tell the proof what the types guarantee.
+    // These calls tell the proof what the types `Rule` and `Periodic` guarantee.
     let _nodes = rule.nodes();
     let _symbols = configuration.symbols();
     if !fits(rule, configuration) {
@@ -99,7 +99,7 @@ pub(crate) fn check_box(alloc: Global, premise: &Rule, goal: &Goal) -> Result<()
     ensures ok { OnOk result (IsFormed (asked.box premise.now (goal_of premise.now goal.now))) }
     ensures fault { IfErr result (IsPartFault (asked.box premise.now (goal_of premise.now goal.now))) }
 {
-    // This call tells the proof what the type guarantees.
+    // This call tells the proof what the type `Rule` guarantees.
     let _nodes = premise.nodes();
     if !is_goal_for(alloc, premise, goal)? {
         return Err(QuestionFault::Goal);
@@ -170,7 +170,7 @@ pub(crate) fn check_density(
     ensures ok { OnOk result (IsFormed (asked.density rule.now strip weights.now)) }
     ensures fault { IfErr result (IsPartFault (asked.density rule.now strip weights.now)) }
 {
-    // This call tells the proof what the type guarantees.
+    // This call tells the proof what the type `Rule` guarantees.
     let _nodes = rule.nodes();
     if !is_strip(rule, strip) {
         return Err(QuestionFault::Strip);
@@ -256,7 +256,7 @@ pub(crate) fn check_discharge(
     ensures ok { OnOk result (IsFormed (asked.discharge rule.now radius margin vectors.now weights.now)) }
     ensures fault { IfErr result (IsPartFault (asked.discharge rule.now radius margin vectors.now weights.now)) }
 {
-    // This call tells the proof what the type guarantees.
+    // This call tells the proof what the type `Rule` guarantees.
     let _nodes = rule.nodes();
     if radius > WIDEST_RADIUS {
         return Err(QuestionFault::Radius);

@@ -40,7 +40,8 @@ pub enum Question<'a> {
         conjugacy: Conjugacy<'a>,
     },
     /// What is the least density on the strip, that is, the least weight per position of a configuration that obeys the rule
-    /// and has the strip's periods? `strip` holds these two periods, along the second and the third axis.
+    /// and has the strip's periods, some period along the first axis, and no shear? `strip` holds the strip's two periods,
+    /// along the second and the third axis.
     Density {
         rule: &'a Rule,
         strip: [u32; 2],
@@ -53,11 +54,11 @@ pub enum Question<'a> {
         periods: [u32; 3],
         weights: &'a [u32],
     },
-    /// What is the best lower bound that a discharge shows for the rule's density? In a discharge, each position first holds
-    /// its weight. Then, along each of the vectors, it gives an amount to the position at the vector's end. The symbols of the
-    /// box of radius `radius` around a position determine what it gives. A bound is a number such that each position then holds
-    /// at least this number. To find it, the fillings of a finite region are examined. `margin` says by how much this region is
-    /// enlarged in every direction.
+    /// What is the best lower bound that a discharge shows for the density (the weight per position) of every configuration
+    /// that obeys the rule? In a discharge, each position first holds the weight of its symbols. Then, along each of the
+    /// vectors, it gives an amount to the position at the vector's end. The symbols of the box of radius `radius` around a
+    /// position determine what it gives. A bound is a number such that each position then holds at least this number. To find
+    /// it, the fillings of a finite region are examined. `margin` says by how much this region is enlarged in every direction.
     Discharge {
         rule: &'a Rule,
         radius: u32,

@@ -36,7 +36,7 @@ fn cells_in(limit: u32, rule: &Rule, periods: [u32; 3]) -> u32
     times(limit, positions_in(limit, periods), rule.nodes())
 }
 
-/// Whether these may be the periods of a torus of this dimension.
+/// Whether each period is at least 1, and is 1 along each axis past the dimension.
 fn are_periods(dimension: u32, periods: [u32; 3]) -> bool
     ensures { IsTrue result ↔ ArePeriodsIn dimension (periods_of periods 0) }
 {
@@ -61,7 +61,7 @@ pub(crate) fn check_least(
     ensures ok { OnOk result (IsFormed (asked.least rule.now periods weights.now)) }
     ensures fault { IfErr result (IsPartFault (asked.least rule.now periods weights.now)) }
 {
-    // This call tells the proof what the type guarantees.
+    // This call tells the proof what the type `Rule` guarantees.
     let _nodes = rule.nodes();
     if !is_torus(rule, periods) {
         return Err(QuestionFault::Periods);
@@ -98,7 +98,7 @@ fn weight_clauses(rule: &Rule, periods: [u32; 3], weights: &[u32]) -> u32
     plus(MOST_CLAUSES, plus(MOST_CLAUSES, torus, gates), 1)
 }
 
-/// Whether a question for a least weight takes more than 2,000,000 clauses.
+/// Whether the bound of `weight_clauses` is over 2,000,000.
 pub(crate) fn is_heavy(rule: &Rule, periods: [u32; 3], weights: &[u32]) -> bool
     requires { length weights.now ≡ rule.now.symbols }
     ensures { result ≡ is_heavy rule.now periods weights.now }

@@ -1,4 +1,5 @@
--- Two right answers to a question differ only in their evidence, because the least radius, the first periods and the first cell are unique.
+-- Two right answers to a question differ only in their evidence. For box questions and membership, this is because the least radius, the first
+-- periods and the first cell are unique.
 use Rattle.std.proofs.Common.{◌≡◌, ℕ, ◌≤◌, List, [], ◌∷◌, refl, ap, sym, subst, ◌∙◌, arith, inl, inr}
 use Rattle.std.proofs.lemmas.{Bool.cases_order, Cmp.nat_cmp_total, Cmp.on_total, Cmp.then_total}
 use Rattle.std.specs.{Prelude.◌⊎◌, Prelude.max, declared.cmp.Ordering.Ordering}
@@ -159,7 +160,7 @@ unless_bare (decision.Yes n steps) P = refl
 unless_bare (decision.No t) P = refl
 unless_bare decision.Unknown P = refl
 
--- if the left decision is NO, the right one does not matter
+-- the join doesn't change if the right decision is replaced by one that differs only in its evidence, or by any other if the left decision is NO
 joined_bare : (l r k : Decision) → UnlessNo l (bare r ≡ bare k) → joined (bare l) (bare r) ≡ joined (bare l) (bare k)
 joined_bare (decision.No t) r k same = refl
 joined_bare (decision.Yes n steps) r k same = ap (joined (decision.Yes n [])) same

@@ -49,7 +49,8 @@ RefutationsFit =
     (n : ℕ) (clauses : List (List Literal)) (steps : List Step) → refutes n clauses steps ≡ true → n ≤ most_variables →
     length clauses + length steps ≤ most_count → IsWritableRefutation steps
 
--- the limit on the number of a torus's clauses bounds the greatest weight of its configurations
+-- The weight is at most 2,000,000 if there is a cell and cells * weight * (rest + 1) is at most 2,000,000. So the limit on the clauses of a torus
+-- bounds the greatest weight.
 weight_small : (cells weight rest : ℕ) → 1 ≤ cells → cells * (weight * suc rest) ≤ 2000000 → weight ≤ 2000000
 weight_small cells weight rest some few =
     let one = mul-le 1 (weight * suc rest) cells (weight * suc rest) some (omega arith) in

@@ -1,5 +1,6 @@
 -- Which answers about least densities and discharging are right. A strip has periods along y and z, and no end along x. A configuration lives on the
--- strip if it has these periods, some period along x and no shear, and obeys the rule everywhere.
+-- strip if it has these periods, some period along x and no shear, and obeys the rule everywhere. Each symbol has a weight. The density of a
+-- configuration is its weight per position.
 use Rattle.std.specs.Prelude.{ℕ, ℤ, List}
 use Rattle.dd_lattice.specs.Place.{Place}
 use Rattle.dd_formula.specs.LocalRule.{LocalRule}

@@ -1,4 +1,4 @@
--- The decisions that an output can hold.
+-- The decisions that an output can hold. The conditions are about the steps of a YES; every NO and every unknown decision satisfies them.
 use Rattle.dd_certificate.specs.Bounds.{IsWritableRefutation}
 use Rattle.dd_contain.specs.declared.{decision.Decision.Decision, equal.Equality.Equality}
 use Rattle.dd_contain.specs.declared.decision.Decision.TheVariants as decision

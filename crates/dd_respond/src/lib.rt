@@ -6,9 +6,12 @@
 //! position. To answer it, a search goes through boxes of growing radius, and then through tori of growing volume (see
 //! `dd_contain`). Each box and each torus becomes a list of clauses.
 //!
-//! An engine is any value that, for a list of clauses, may propose an assignment to satisfy them, or a refutation. It is sound
-//! if all that it proposes is right. A list of engines is called a roster. In the search, the engines of a roster are asked
-//! about each list of clauses. If none of them makes a right proposal, a solver decides.
+//! An engine is any value that, for a list of clauses, may propose an assignment that satisfies them, or a refutation. It is
+//! sound if all that it proposes is right. A list of engines is called a roster. In the search, the engines of a roster are
+//! asked about each list of clauses. If none of them makes a right proposal, a solver decides.
+//!
+//! The limits bound the radii and the periods of the search, and the pivots of a run of the simplex method. If they leave a
+//! question undecided, the answer is UNKNOWN.
 #![tactic(auto)]
 
 mod boxes;

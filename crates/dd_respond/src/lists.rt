@@ -9,7 +9,8 @@ use dd_evidence::{forbidden_patterns, lists_fit};
 use dd_formula::Rule;
 use std::alloc::{AllocError, Global};
 
-/// The list of all the patterns that a rule forbids. Such a pattern has a symbol for each cell that the rule reads at a node.
+/// The list of all the patterns that a rule forbids. Such a pattern gives an allowed symbol to each cell that the rule reads at
+/// a node, and the rule is false under these symbols.
 #[tactic(auto, using(dd_evidence::specs::Answers::all_forbidden))]
 pub(crate) fn listed(alloc: Global, rule: &Rule) -> Result<Answer, AllocError>
     requires { HasFewPatterns rule.now }

@@ -67,7 +67,10 @@ fn by_kind<E: Engine>(
 /// is within its bounds.
 ///
 /// If the question comes down to box questions, the roster is used as in `decide` of `dd_contain`. For other questions no
-/// engine is asked. The sound engines stay in the roster.
+/// engine is asked. In both cases the sound engines stay in the roster.
+///
+/// # Errors
+/// `AllocError` if memory ran out.
 pub fn respond<E: Engine>(
     alloc: Global,
     question: &CheckedQuestion,

@@ -1,5 +1,6 @@
-//! Answers to questions about the least weight of a fundamental box, the box that repeats in a periodic configuration. The
-//! configurations have no shear here: each period vector lies along its own axis.
+//! Answers to questions about the least weight of a fundamental box, the box that repeats in a periodic configuration. Each
+//! symbol has a weight, and the weight of a box is the sum over its cells. The configurations have no shear here: each period
+//! vector lies along its own axis.
 ghost use Rattle.std.specs.Prelude.{◌≡◌, IfOk};
 ghost use Rattle.dd_certificate.specs.Bounds.{IsWritable};
 ghost use Rattle.dd_counter.specs.Least.{IsLeast};

@@ -30,7 +30,7 @@ same_mapped {Y} f g a (suc n) same =
     ap (λ y. y ∷ map f (range_with_len (a + 1) n)) (same a (omega arith) (omega arith))
     ∙ ap (λ (ys : List Y). g a ∷ ys) (same_mapped f g (a + 1) n (λ k low high. same k (omega (arith, low)) (omega (arith, high))))
 
--- two functions that agree on a range except at one number
+-- two functions that agree except at one number
 pub set_mapped : {Y : Type 0} (f g : ℕ → Y) (a n j : ℕ) (y : Y) → j < n → y ≡ g (a + j) → ((k : ℕ) → (k ≡ a + j → ⊥) → f k ≡ g k) → set (map f (range_with_len a n)) j y ≡ map g (range_with_len a n)
 set_mapped f g a zero j y below is same = absurd (omega (arith, below))
 set_mapped {Y} f g a (suc n) zero y below is same =
@@ -46,7 +46,7 @@ kept_if : (b : Bool) (xs : List Cell) (c : Cell) → b ≡ false → xs ≡ xs +
 kept_if true xs c h = absurd (false≢true (sym h))
 kept_if false xs c h = sym (append-nil xs)
 
--- the lists of the other numbers stay as they are
+-- the list of a number k stays as it is if the next cell has another number
 pub chosen_left : (ns : List ℕ) (cs : List Cell) (k i : ℕ) → i < length ns → i < length cs → (get_or ns i 0 ≡ k → ⊥) →
     chosen (take i ns) (take i cs) k ≡ chosen (take (i + 1) ns) (take (i + 1) cs) k
 chosen_left ns cs k i h h' other =
@@ -55,7 +55,7 @@ chosen_left ns cs k i h h' other =
     kept_if (nat_eq (get_or ns i 0) k) (chosen (take i ns) (take i cs) k) (get_or cs i d) (ne_eqb (get_or ns i 0) k other)
     ∙ (sym (chosen_more ns cs k i d h h') ∙ ap (λ j. chosen (take j ns) (take j cs) k) next)
 
--- the cell is appended to the list of its own number
+-- the next cell is appended to the list of its own number k
 pub chosen_kept : (ns : List ℕ) (cs : List Cell) (k i : ℕ) (d : Cell) → i < length ns → i < length cs → get_or ns i 0 ≡ k →
     chosen (take i ns) (take i cs) k ++ get_or cs i d ∷ [] ≡ chosen (take (i + 1) ns) (take (i + 1) cs) k
 chosen_kept ns cs k i d h h' is =

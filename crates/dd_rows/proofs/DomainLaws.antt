@@ -15,12 +15,12 @@ forth a b = omega (arith, ints)
 moved_forth : (p v : Place) → p ≡ moved (moved p v) (reversed v)
 moved_forth p v = place_same p.x p.y p.z _ _ _ (forth p.x v.x) (forth p.y v.y) (forth p.z v.z)
 
--- without vectors, the domain is the centred box
+-- without vectors, the domain lies in the centred box
 centred_from : (d radius : ℕ) (p : Place) → IsInDomain d radius [] p → IsCentred d radius p
 centred_from d radius p (inl here) = here
 centred_from d radius p (inr there) = absurd (Contains-nil there.0 there.1)
 
--- the domain of the vectors so far, together with the box moved by the opposite of the next one
+-- the domain of the vectors so far, and the box moved by the opposite of the next vector, lie in the next domain
 to_next : (d radius : ℕ) (vs : List Place) (v : Place) (around moved_box all : List Place) → IsRegionOf (IsInDomain d radius []) around →
     IsRegionOf (IsMoved around (reversed v)) moved_box → IsRegionOf (IsInDomain d radius vs) all → (p : Place) →
     Contains all p ⊎ Contains moved_box p → IsInDomain d radius (vs ++ v ∷ []) p
@@ -35,6 +35,7 @@ to_next d radius vs v around moved_box all box there before p (inr new) =
     let same : origin ≡ moved p v = sym (back_and_forth origin v) ∙ ap (λ q. moved q v) (sym from.2) in
     inr (v, Contains-push vs v, subst (IsCentred d radius) same centred)
 
+-- each position of the next domain lies in the domain so far or in this moved box
 from_next : (d radius : ℕ) (vs : List Place) (v : Place) (around moved_box all : List Place) → IsRegionOf (IsInDomain d radius []) around →
     IsRegionOf (IsMoved around (reversed v)) moved_box → IsRegionOf (IsInDomain d radius vs) all → (p : Place) →
     IsInDomain d radius (vs ++ v ∷ []) p → Contains all p ⊎ Contains moved_box p

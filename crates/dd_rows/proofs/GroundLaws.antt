@@ -92,7 +92,7 @@ ground_from x radius margin vs domain region cs inner outer is = record {
   cells = is;
 }
 
--- what is known of the cells of the grown domain
+-- cs lists the cells of the ground, in cell order; they have nodes of the rule and are in range
 pub record IsGroundInOrder (x : LocalRule) (radius margin : ℕ) (vs : List Place) (cs : List Cell) : Type 0 where
   pub ground : IsGround x radius margin vs cs
   pub order : IsStrictlySortedBy cell_cmp cs

@@ -21,7 +21,7 @@ use Rattle.dd_rows.proofs.RowLaws.{all_shown, all_required}
 pub memory_fault : (fault : RowsFault) (P : Type 0) → fault ≡ Memory → OnLarge fault P
 memory_fault fault P is = subst (λ f. OnLarge f P) (sym is) tt
 
--- the symbols of the fillings have weights
+-- the symbols of the fillings are below the number of symbols, so each has a weight
 pub fillings_known : (x : LocalRule) (cs : List Cell) (lists : List (List ℕ)) (n : ℕ) → lists ≡ fillings x cs → n ≡ x.symbols → All (λ ss. All (λ s. s < n) ss) lists
 fillings_known x cs lists n is size =
     subst (λ ls. All (λ ss. All (λ s. s < n) ss) ls) (sym is)

@@ -26,7 +26,7 @@ take_past [] (suc i) past = refl
 take_past (x ∷ xs) zero past = absurd (omega (arith, past))
 take_past (x ∷ xs) (suc i) past = ap (λ ys. x ∷ ys) (take_past xs i (omega (arith, past)))
 
--- ---- keys that are inserted twice
+-- ---- keys (items of an ascending list) that are inserted twice
 
 module _ {K : Type 0} {R : K → K → Ordering} (o : IsTotalOrder R) where
   -- the list has a key equal to k
@@ -132,7 +132,7 @@ module _ (v : Views) where
     rows = λ ps ws most. rows_push ps ws most shown ss ∙ (ap (λ rs. add_row rs (required_row ps v ws ss)) (same.rows ps ws most) ∙ sym (rows_push ps ws most lists ss));
   }
 
-  -- the patterns that the last filling shows are there already
+  -- if the views show the same symbols in ss as in the last filling, the patterns that ss shows are there already
   patterns_there : (front : List (List ℕ)) (last ss : List ℕ) → ShowAlike v last ss →
       with_patterns (patterns_shown v (front ++ last ∷ [])) (patterns_seen v ss) ≡ patterns_shown v (front ++ last ∷ [])
   patterns_there front last ss alike =

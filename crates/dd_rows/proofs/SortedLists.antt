@@ -1,4 +1,4 @@
--- Ascending lists: the place of a key, and the list after a key is inserted.
+-- Ascending lists, whose items are called keys: the place of a key, and the list after a key is inserted.
 use Rattle.std.proofs.Common.{◌≡◌, ◌<◌, ◌≤◌, ℕ, zero, suc, List, [], ◌∷◌, ◌++◌, length, get_or, take, drop, refl, sym, ◌∙◌, ap, subst, inl, inr, arith, Ok, Err, Result, add-one}
 use Rattle.std.proofs.lemmas.{Bool.cases_lt, List.Elements.All-from_recursion, List.Elements.recursion_from_All}
 use Rattle.std.proofs.lemmas.{List.Sorted.searchable_from_sorted, List.Sums.position_or_len_is, Map.Keys.Less-from_sorted}
@@ -115,12 +115,12 @@ module _ {K : Type 0} {R : K → K → Ordering} (o : IsTotalOrder R) (ks slice 
   pub ascends_still : (k : K) (new : List K) → new ≡ insert_key R now k → IsStrictlySortedBy R new
   ascends_still k new is = subst (IsStrictlySortedBy R) (sym is) (insert_ascends o now k (subst (IsStrictlySortedBy R) view up))
 
--- an insertion doesn't make the list shorter
 longer_from : {K : Type 0} (x k : K) (ks more : List K) (r : Ordering) → length ks ≤ length more → length (x ∷ ks) ≤ length (match_ordering r (k ∷ x ∷ ks) (x ∷ ks) (x ∷ more))
 longer_from x k ks more Less h = omega arith
 longer_from x k ks more Equal h = omega arith
 longer_from x k ks more Greater h = omega (arith, h)
 
+-- an insertion doesn't make the list shorter
 pub insert_grows : {K : Type 0} (R : K → K → Ordering) (ks : List K) (k : K) → length ks ≤ length (insert_key R ks k)
 insert_grows R [] k = omega arith
 insert_grows R (x ∷ ks) k = longer_from x k ks (insert_key R ks k) (R k x) (insert_grows R ks k)

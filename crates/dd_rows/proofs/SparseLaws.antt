@@ -26,11 +26,11 @@ use Rattle.dd_values.specs.lemmas.Lists.{flat_map_agree, map_alike, all_first, a
 one_here : (k : ℕ) → one_at k k ≡ pos 1
 one_here k = ap (λ b. pos (cond b 1 0)) (eq-eqb k k refl)
 
--- two differences agree at each number below p
+-- the differences of `one_at`, for a and b and for c and d, agree at each number below p
 record Agree (p a b c d : ℕ) : Type 0 where
   at : (k : ℕ) → k < p → (one_at k a -ℤ one_at k b) ≡ (one_at k c -ℤ one_at k d)
 
--- where one difference is 1, the other is too
+-- at the number a the first difference is 1, so the second is 1 too, and a is c
 same_one : (p a b c d : ℕ) → Agree p a b c d → a < p → (a ≡ b → ⊥) → a ≡ c
 same_one p a b c d agree below apart = elim (cases_eq a c) [
   | inl same ↦ same
@@ -162,7 +162,6 @@ module _ (v p : ℕ) (eq : SparseRow → SparseRow → Bool) (tells : (a b : Spa
   pub with_row : (r : SparseRow) (rs new : List SparseRow) → IsSparse v p r → AreSparse v p rs → new ≡ insert_key eq rs r → IsWithRow v p rs r new
   with_row r rs new one all is = put (list_any (eq r) rs) r rs new one all (found_alike r rs one all) is
 
--- the exchanges of a filling stand for its row
 is_exchange : (p n m : ℕ) → n ≤ p → m ≤ p → (b : Bool) → nat_eq n m ≡ b → IsExchange p (cond b None (Some (record { gives = n; receives = m })))
 is_exchange p n m low low' true e = tt
 is_exchange p n m low low' false e = (low, low', λ same. absurd (let yes = eq-eqb n m same in false≢true (sym e ∙ yes)))
@@ -189,6 +188,7 @@ exchanges_sparse ps v ss r is =
     v.givers (λ k d within. tt) in
     record { as_many = ap length is ∙ length-map v.givers f; each = subst (All (IsExchange (length ps))) (sym is) each }
 
+-- the exchanges of a filling, written out, are the coefficients of its row
 pub exchanges_stand : (ps : List (List ℕ)) (v : Views) (ss : List ℕ) →
     pos 1 ∷ flat_map (entries (length ps)) (exchanges_of ps v ss) ≡ coefficients ps (symbols_at ss v.origin) (map (symbols_at ss) v.givers)
 exchanges_stand ps v ss =
@@ -201,7 +201,6 @@ exchanges_stand ps v ss =
     ∙ (flat_map_agree (λ numbers. entries p (f numbers)) (λ numbers. g (symbols_at ss numbers)) (λ numbers. entries_are p n (pattern_number ps (symbols_at ss numbers))) v.givers
     ∙ sym (flat_map-map g (symbols_at ss) v.givers)))
 
--- the first row
 zeros : (start n : ℕ) → map (entry None) (range_with_len start n) ≡ replicate n (pos 0)
 zeros start zero = refl
 zeros start (suc n) = ap (λ (zs : List ℤ). pos 0 ∷ zs) (zeros (start + 1) n)
@@ -221,6 +220,7 @@ none_length : (v : ℕ) → length (replicate v (let none : Option Exchange = No
 none_length zero = refl
 none_length (suc v) = let rest = none_length v in omega (arith, rest)
 
+-- the first row as a sparse row: it has no exchanges
 pub cap_sparse : (v p : ℕ) (r : SparseRow) → r.exchanges.items ≡ replicate v None → IsSparse v p r
 cap_sparse v p r is = record { as_many = ap length is ∙ none_length v; each = subst (All (IsExchange p)) (sym is) (none_exchanged v p) }
 
@@ -234,16 +234,16 @@ row_stands ps v ws ss r is bound =
     ap (λ es. pos 1 ∷ flat_map (entries (length ps)) es) is ∙ exchanges_stand ps v ss in
     λ i. record { coefficients = sides i; bound = bound i }
 
--- the symbols that a view shows have weights
 known_at : (n : ℕ) (ss : List ℕ) → All (λ s. s < n) ss → 1 ≤ n → (i : ℕ) → unwrap_or (slice_get ss i) 0 < n
 known_at n [] all some i = some
 known_at n (s ∷ ss) all some zero = all_first (λ t. t < n) s ss all
 known_at n (s ∷ ss) all some (suc i) = known_at n ss (all_rest (λ t. t < n) s ss all) some i
 
+-- if n is at least 1 and all symbols of ss are below n, so are the symbols that a view shows
 pub seen_known : (n : ℕ) (ss numbers : List ℕ) → All (λ s. s < n) ss → 1 ≤ n → All (λ s. s < n) (symbols_at ss numbers)
 seen_known n ss numbers all some = all_map (λ s. s < n) (λ _. Unit {0}) (λ i. unwrap_or (slice_get ss i) 0) (λ i _. known_at n ss all some i) numbers (λ k d within. tt)
 
--- the rows so far
+-- appending a row doesn't make the list shorter
 add_grows : (rs : List Row) (r : Row) → length rs ≤ length (add_row rs r)
 add_grows rs r = by (list_any (is_same_row r) rs)
   where
@@ -251,6 +251,7 @@ add_grows rs r = by (list_any (is_same_row r) rs)
     by true = omega arith
     by false = let size = length-append rs (r ∷ []) in omega (arith, size)
 
+-- the rows so far
 module _ (ps : List (List ℕ)) (v : Views) (ws : List ℕ) (most : ℕ) where
   abbrev pub begun : List Row
   begun = capped (length v.givers) (length ps) most ∷ []
@@ -282,7 +283,7 @@ module _ (ps : List (List ℕ)) (v : Views) (ws : List ℕ) (most : ℕ) where
       (folded_next add_row begun (required_row ps v ws) lists i d (map (dense (length ps)) old) new below before at (ap (add_row (map (dense (length ps)) old)) stands))
       many
 
--- two sparse rows pass the test `same_sparse` exactly when they are the same
+-- whether two exchanges are the same, and whether two sparse rows have the same exchanges and the same bound
 abbrev pub same_exchange_test : Exchange → Exchange → Bool
 same_exchange_test e f = nat_eq e.gives f.gives && nat_eq e.receives f.receives
 
@@ -301,6 +302,7 @@ option_tells None (Some f) = (λ h. absurd (false≢true h), λ same. absurd (cc
 option_tells (Some e) None = (λ h. absurd (false≢true h), λ same. absurd (cc))
 option_tells (Some e) (Some f) = (λ h. ap Some ((exchange_tells e f).0 h), λ same. (exchange_tells e f).1 (same_Some e f same))
 
+-- two sparse rows pass the test `same_sparse` exactly when they have the same exchanges and the same bound
 pub sparse_tells : (a b : SparseRow) → Decides (same_sparse a b) (AreAlike a b)
 sparse_tells a b =
     let lists = pointwise (option_eq same_exchange_test) a.exchanges.items b.exchanges.items in

@@ -6,7 +6,7 @@ use Rattle.dd_pattern.specs.{Reading.Look, Filling.filled, Filling.filling_look}
 use Rattle.dd_formula.specs.LocalRule.{LocalRule, rule_allows, is_true}
 use Rattle.dd_boxes.specs.Fillings.{place_fits}
 
--- the filling that gives the symbols ss to the cells cs, in order
+-- the look-up of the filling that gives the symbols ss to the cells cs, in order; a look-up gives each cell its symbol, or none
 abbrev pub look_of : List Cell → List ℕ → Look
 look_of cs ss = filling_look (filled cs ss)
 
@@ -19,7 +19,7 @@ abbrev pub words : LocalRule → List Cell → List (List ℕ)
 words x [] = [] ∷ []
 words x (c ∷ cs) = flat_map (λ s. map (λ ss. s ∷ ss) (words x cs)) (allowed_symbols x c.node)
 
--- whether the rule is true at the cell c, or doesn't fit there: c, or a cell that the rule reads there, has no symbol
+-- Whether the rule is true at the cell c, or doesn't fit there. It fits if c, and each cell that it reads there, has a symbol.
 abbrev pub is_true_if_it_fits : LocalRule → Look → Cell → Bool
 is_true_if_it_fits x look c = not (place_fits x look c) || is_true x c look
 

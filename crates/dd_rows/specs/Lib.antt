@@ -7,7 +7,7 @@ pub mod Fillings
 pub mod Patterns
 -- the program of a rule along some vectors: rows that bound from below what each position holds
 pub mod Programs
--- why a rule has no program
+-- what a fault means
 pub mod Faults
 -- the law that the listed fillings are the admissible ones
 pub mod Laws

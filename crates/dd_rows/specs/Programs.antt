@@ -1,6 +1,7 @@
 -- The program of a rule along some vectors. Along each vector, each position gives an amount that the pattern around it
--- determines. Each column stands for a number. Column 0 is a lower bound for what each position then holds. After it there is a
--- column for each vector and each pattern: the amount that a position with this pattern gives along this vector.
+-- determines. The program's rows are linear inequalities, with a coefficient for each column. Each column stands for a number.
+-- Column 0 is a lower bound for what each position holds in the end. After it there is a column for each vector and each
+-- pattern: the amount that a position with this pattern gives along this vector.
 use Rattle.std.specs.Prelude.{ℕ, ◌+◌, ◌*◌, ◌<◌, ◌≤◌, ◌≡◌, ◌⊎◌, Bool, ◌&&◌, cond, pos, ◌-ℤ◌, ℤ, List, [], ◌∷◌, ◌++◌, map, length, replicate, unwrap_or}
 use Rattle.std.specs.{Bool.nat_eq, Ordering.int_eq, List.fold, List.flat_map, List.list_any, List.range_with_len}
 use Rattle.std.specs.Cmp.Lexicographic.{pointwise}

@@ -1,4 +1,4 @@
-//! The domain of a discharge, and its ground: the cells whose admissible fillings make the program.
+//! The domain and the ground of a discharge. The program is made from the admissible fillings of the ground.
 ghost use Rattle.std.specs.Prelude.{◌≡◌, ◌<◌, ◌≤◌, IfOk, IfErr, [], All};
 ghost use Rattle.std.specs.List.Sorted.{IsStrictlySortedBy};
 ghost use Rattle.dd_values.specs.Bounds.{widest_radius};
@@ -50,7 +50,8 @@ fn domain(alloc: Global, dim: u32, radius: u32, vectors: &[Position]) -> Result<
         let moved = match around.shifted(alloc, &reversed(vector)) {
             Ok(moved) => moved,
             Err(LatticeFault::Memory) => return Err(RowsFault::Memory),
-            // Along each axis, positions of the box lie within 3 of the origin, and a vector moves them by at most 4.
+            // Never reached: along each axis, positions of the box lie within 3 of the origin, and a vector moves them by at
+            // most 4.
             Err(LatticeFault::Range) => unreachable!(),
         };
         all = all.union(alloc, &moved)?;
@@ -58,7 +59,7 @@ fn domain(alloc: Global, dim: u32, radius: u32, vectors: &[Position]) -> Result<
     Ok(all)
 }
 
-/// The cells at the positions of a region, in cell order.
+/// The cells at these positions. If the positions are in order, so are the cells.
 fn cells_on(alloc: Global, nodes: u32, positions: &[Position]) -> Result<Items<Cell>, AllocError>
     ensures { IfOk result (λ cells. cells ≡ cells_on nodes positions.now) }
 {
@@ -88,7 +89,7 @@ pub(crate) fn box_cells(alloc: Global, rule: &Rule, radius: u32) -> Result<Items
 }
 
 /// The cells of the ground, in cell order. The ground is the domain grown by the margin, and the boxes of the domain have this
-/// radius. Fails only if memory runs out.
+/// radius. The radius, the margin and the vectors are limited as in `program_of`. Fails only if memory runs out.
 pub fn ground(
     alloc: Global,
     rule: &Rule,
@@ -111,7 +112,7 @@ pub fn ground(
     let region = match near.grow(alloc, dim, margin) {
         Ok(region) => region,
         Err(LatticeFault::Memory) => return Err(RowsFault::Memory),
-        // Along each axis, positions of the domain lie within 7 of the origin, and the margin is at most 3.
+        // Never reached: along each axis, positions of the domain lie within 7 of the origin, and the margin is at most 3.
         Err(LatticeFault::Range) => unreachable!(),
     };
     let positions = region.list();

@@ -1,10 +1,10 @@
-//! The reasons why a rule's program along some vectors was not made.
+//! The reasons why a call of this crate may fail.
 ghost use Rattle.std.specs.Prelude.{◌≡◌};
 
 use std::alloc::AllocError;
 use thiserror::Error;
 
-/// Why the program of a rule was not made.
+/// Why a call of this crate failed.
 #[derive(Clone, Copy, Debug, PartialEq, Eq, Error)]
 pub enum RowsFault {
     /// Some prefix of the list of cells has more than 65,536 admissible fillings, or the program would have more than 256

@@ -1,15 +1,18 @@
-//! The linear program of a rule's discharge, which is a plan for moving weight between positions. At first each position holds
-//! the weight of its symbols. Then, along each vector v of a list, each position p gives an amount to the position p + v. The
-//! amount depends on v and on the pattern around p: the symbols of the box of a given radius around p. The program seeks
-//! amounts for which the least weight that any position then holds is as great as possible.
+//! The linear program of a discharge. A cell is a position of Z^d together with one of its nodes. A rule is a formula about a
+//! cell and the cells near it. It reads the cells whose symbols the formula looks at. A discharge is a plan for moving weight
+//! between positions. At first each position holds the weight of its symbols. Then, along each vector v of a list, each
+//! position p gives an amount to the position p + v. The amount depends on v and on the pattern around p: the symbols of the
+//! box of a given radius around p. This box has the positions that are, along each axis, at most the radius away from p. The
+//! program maximises a number such that, with suitable amounts, each position holds at least this number in the end.
 //!
-//! The domain is made of the boxes around the origin and around the positions that give to it. The ground is the domain grown
-//! by a given margin: its positions are those that are, along each axis, at most the margin away from a position of the domain.
-//! They are in range: each coordinate is at most 2^20 in absolute value. A cell is a position together with one of its nodes.
-//! This crate lists the cells of the ground in cell order (by z, then y, then x, then the node). A cell's number is its index
-//! in this list. The crate also lists the admissible fillings of these cells. A filling gives each cell a symbol that its node
-//! allows. It is admissible if the rule is true at each cell where the rule fits: where the cell, and each cell that the rule
-//! reads there, has a symbol.
+//! It is enough to look at what the origin holds in the admissible fillings of finitely many cells. A filling gives each of the
+//! cells a symbol that its node allows. It is admissible if the rule is true at each cell where the rule fits: where the cell,
+//! and each cell that the rule reads there, has a symbol. The domain is made of the boxes around the origin and around the
+//! positions that give to it. The ground is the domain grown by a given margin: its positions are those that are, along each
+//! axis, at most the margin away from a position of the domain. They are in range: each coordinate is at most 2^20 in absolute
+//! value. This crate lists the cells of the ground in cell order (by z, then y, then x, then the node). A cell's number is its
+//! index in this list, or the length of the list if the cell isn't there. The crate also lists the admissible fillings of these
+//! cells.
 //!
 //! A view is a list of cell numbers. It shows the symbols that a filling gives to these cells. The patterns that a filling
 //! shows are those around the origin and around the positions that give to it. The row that a filling requires is a linear

@@ -12,8 +12,8 @@ use dd_numbered::{Numbered, Numbers, rank};
 use dd_values::Items;
 use std::alloc::{AllocError, Global};
 
-/// Assigns numbers to cells that are given relative to the position `at`. A cell's number is its index in `cells`, which is in
-/// cell order. A cell that isn't in `cells` has the length of `cells` as its number, and a cell out of range has none.
+/// Assigns numbers to cells that are given relative to the position `at`. A cell in range has its index in `cells` as its
+/// number, or the length of `cells` if it isn't there. A cell out of range has no number. `cells` is in cell order.
 #[derive(Drop)]
 struct Near<'a> {
     cells: &'a [Cell],

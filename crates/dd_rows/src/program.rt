@@ -1,4 +1,4 @@
-//! The program of a rule along some vectors: its patterns, and the distinct rows that its fillings require.
+//! The program of a rule along some vectors: its patterns and its distinct rows.
 ghost use Rattle.std.specs.Prelude.{◌≡◌, ◌≤◌, ◌<◌, ℕ, map, length, IfOk, IfErr, OnOk, All};
 ghost use Rattle.std.specs.List.{flat_map};
 ghost use Rattle.dd_values.specs.Bounds.{most_weight, widest_radius};
@@ -177,7 +177,8 @@ fn greatest_weight(weights: &[u32]) -> u32
     most
 }
 
-/// The program of these fillings: the patterns that they show, and the distinct rows that they require.
+/// The program of these fillings: the patterns that they show, and the rows of `distinct_rows`. Fails with `Large` if there are
+/// too many columns or rows.
 fn program_listed(
     alloc: Global,
     fillings: &[Items<u32>],
@@ -220,8 +221,10 @@ fn program_shown(
     program_listed(alloc, shown.as_slice(), views, weights, heaviest)
 }
 
-/// The program of a rule along the vectors. Its fillings are those of the ground, which is the domain of this radius grown by
-/// the margin. `weights` has one weight for each symbol.
+/// The program of a rule along the vectors. It is made from the admissible fillings of the ground. The ground is the domain
+/// grown by the margin, and the boxes of the domain have this radius. The radius and the margin are at most 3. There are from 1
+/// to 16 vectors, all different. Their coordinates are at most 4 in absolute value, and 0 along the axes past the rule's
+/// dimension. `weights` has one weight for each symbol, each at most 1,000.
 ///
 /// # Errors
 /// - `Large` if some prefix of the ground's list of cells has more than 65,536 admissible fillings, or if the program would

@@ -32,8 +32,9 @@ fn write_symbol(longer: &mut Vec<u32>, symbol: u32) -> Result<(), AllocError>
     Ok(())
 }
 
-/// Appends to `next` the list `symbols` with one more symbol at its end, once for each symbol that the node allows and with
-/// which the formulas are true. Each of these lists is first built in `longer`.
+/// For each symbol that the node allows, appends to `next` the list `symbols` with this symbol at its end, if all formulas are
+/// true of this longer list. The longer list is first built in `longer`. Fails with `Large` if `next` would get more than
+/// 65,536 lists.
 fn extend(
     alloc: Global,
     rule: &Rule,
@@ -67,7 +68,8 @@ fn extend(
     Ok(())
 }
 
-/// The next level, which fills one more cell. The cell's node is `node`.
+/// The next level, which fills one more cell. The cell's node is `node`. The formulas say that the rule is true at the cells
+/// where it can first be tested at this level. Fails with `Large` if the level would have more than 65,536 fillings.
 fn next_level(
     alloc: Global,
     rule: &Rule,
@@ -178,7 +180,8 @@ fn places_by_number(
 
 /// All admissible fillings of the cells, in lexicographic order. Each is the list of the cells' symbols, in the order of the
 /// cells. A filling is admissible if each symbol is one that the cell's node allows, and the rule is true at each of the cells
-/// where it fits: where all that it reads has a symbol.
+/// where it fits: where all that it reads has a symbol. The cells must be in cell order, each once, in range, and with nodes of
+/// the rule.
 ///
 /// # Errors
 /// - `Large` if a prefix of the cells has more than 65,536 admissible fillings.

@@ -40,7 +40,8 @@ fn exchange_between(gives: usize, receives: usize) -> Option<Exchange>
     }
 }
 
-/// The number of the pattern that the filling shows at the cells with these numbers. The pattern itself is left in `seen`.
+/// The number of the pattern that the filling shows at the cells with these numbers, or the length of `patterns` if the pattern
+/// isn't there. The pattern is first read into `seen`.
 fn number_seen(
     symbols: &[u32],
     numbers: &[usize],
@@ -53,7 +54,7 @@ fn number_seen(
     Ok(patterns.number(seen))
 }
 
-/// What the origin exchanges along each vector, in a filling.
+/// What the origin exchanges along each vector, in a filling. Each pattern is first read into `seen`.
 pub(crate) fn exchanges(
     alloc: Global,
     symbols: &[u32],

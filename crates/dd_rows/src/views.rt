@@ -1,5 +1,5 @@
-//! Views: the cells of a filling that determine its row, given by their numbers. A cell's number is its index in the list of
-//! cells that are filled.
+//! Views: lists of the cells whose symbols determine the row that a filling requires. Each cell is given by its number, which
+//! is its index in the list of the cells that are filled.
 ghost use Rattle.std.specs.Prelude.{◌≡◌, ◌<◌, ◌≤◌, ◌*◌, pos, map, length, IfOk, IfErr};
 ghost use Rattle.std.specs.List.{All, range_with_len};
 ghost use Rattle.std.specs.List.Sorted.{IsStrictlySortedBy};
@@ -27,11 +27,11 @@ const ORIGIN: Position = Position { x: 0, y: 0, z: 0 };
 /// cells.
 #[derive(Drop)]
 pub(crate) struct Views {
-    /// The cells at the origin, one for each node.
+    /// The numbers of the cells at the origin, one for each node.
     pub(crate) centre: Items<usize>,
-    /// The cells of the box around the origin.
+    /// The numbers of the cells of the box around the origin.
     pub(crate) origin: Items<usize>,
-    /// For each vector v, the cells of the box around -v. The position -v is the one that gives to the origin along v.
+    /// For each vector v, the numbers of the cells of the box around -v, the position that gives to the origin along v.
     pub(crate) givers: Items<Items<usize>>,
 }
 
@@ -94,7 +94,8 @@ fn centre(alloc: Global, cells: &[Cell], nodes: u32) -> Result<Items<usize>, All
 }
 
 impl Views {
-    /// The views of a rule's discharge along the vectors. Fails only if memory runs out.
+    /// The views of a discharge along the vectors. The boxes have this radius, and the numbers are indices in `cells`. Fails
+    /// only if memory runs out.
     pub(crate) fn new(
         alloc: Global,
         rule: &Rule,

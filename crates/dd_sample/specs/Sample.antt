@@ -36,7 +36,7 @@ queries_text =
     ++ (codes "%density dom [5]\n"
     ++ codes "%discharge dom 0 0 [1 0] [-1 0] [0 1] [0 -1]\n")))))
 
--- The sample script with this number. Its configuration is two wide: the rows 1 0 and 0 1 alternate, each `number` times.
+-- The sample script with this number. The box of its configuration is 2 cells wide: the rows 1 0 and 0 1 alternate, each `number` times.
 unfoldable pub sample_text : ℕ → List ℕ
 sample_text number =
     rules_text

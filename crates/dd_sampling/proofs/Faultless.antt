@@ -110,7 +110,7 @@ dom_means x = simp meanings
 abbrev pub standing : List ℕ → ℕ → List (List ℕ) → List (List ℕ) → Context
 standing bytes number rules configurations = record { text = bytes; has_topology = false; number = number; known = known rules configurations }
 
--- the context of a sample's rule or configuration, once the rules with these names are defined
+-- the context of the command for a sample's rule or configuration, once the rules with these names are defined
 abbrev pub behind : List ℕ → ℕ → List (List ℕ) → Context
 behind more number rules = standing (front_text ++ more) number rules []
 

@@ -40,7 +40,7 @@ known rules configurations =
       configurations = configurations;
     }
 
--- ---- definitions
+-- ---- the rules
 
 -- the faults of a rule with these counts: the limits that it exceeds
 abbrev few_and_near : ℕ → List Cell → List Fault
@@ -69,9 +69,9 @@ dom_few = rule_faultless dom_counts refl
 
 -- ---- questions
 
--- A box question has two rules here, the premise and the goal's rule. It asks whether no configuration that obeys the premise breaks the goal's
--- rule. `long_by` says whether the question has too many clauses. This is computed from the premise, the numbers of clauses of the premise and of
--- the goal's rule, and the cells that the goal's rule reads.
+-- Each box question of a sample has two rules, the premise and the goal's rule. It asks whether no configuration that obeys the premise breaks the
+-- goal's rule. `long_by` says whether the question has too many clauses. It computes this from the premise, the number of clauses of the premise, the
+-- number of clauses of the goal's rule, and the cells that the goal's rule reads.
 abbrev long_by : LocalRule → ℕ → ℕ → List Cell → Bool
 long_by x clauses goal cells =
     nat_lt most_clauses (largest_region x.dimension (max 3 (farthest (in_order cells ++ []))) 3 * (x.nodes * cell_clause_count x.symbols + disallowed_pairs x + (clauses + 0)) + (goal + 0 + 1))

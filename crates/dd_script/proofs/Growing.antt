@@ -25,7 +25,8 @@ module _ (s : Parts) (is : IsScriptOf s) {R A C : List (List ℕ)} {rs : List Lo
   abbrev pub grown : Parts
   grown = record { known = record (s.known) { rules = R; automata = A; configurations = C }; rules = rs; automata = fs; configurations = ts; queries = qs }
 
-  -- a query names the same items as before, asks the same question, and consists of the same comparisons
+  -- what a query names still exists, its numbers and vectors are still within their bounds, and it asks the same question and consists of the same
+  -- comparisons as before
   same_query : (q : Query) → IsQueryWithin s.known q → IsQueryWithin grown.known q × (asked grown q ≡ asked s q) × (comparisons_for grown q ≡ comparisons_for s q)
   same_query q has = grind arith
 

@@ -40,6 +40,7 @@ module _ (d : Draft) (is : IsScriptOf (parts_of d)) where
   abbrev s : Parts
   s = parts_of d
 
+  -- the script after the command c
   abbrev behind : Command → Parts
   behind c = with d.context.text s (meaning d.context d.made.automata c)
 

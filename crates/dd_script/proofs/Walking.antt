@@ -18,8 +18,8 @@ use Rattle.dd_script.proofs.Kept.{IsReady, HasSets, ready_behind, kept_behind}
 abbrev pub meant : Draft → Written → Meaning
 meant d w = meaning_of d.context d.made.automata w.command
 
--- If the command's text has no fault, and the counts of its rule or automaton (instances, cells that it reads, depth) exceed no limit, then the fault
--- of the command, if any, is the one that `asked_fault` gives: the command is a query, and its pairs or questions exceed a limit.
+-- If the command's text has no fault, and its rule or automaton exceeds no limit (on its instances, on how far away it reads cells, or on its depth),
+-- then the fault of the command, if any, is the one that `asked_fault` gives: the command is a query, and its pairs or questions exceed a limit.
 module _ (d : Draft) (w : Written) (m : Meaning) (none : first_fault (written_faults d.context w) ≡ None) (few : counted_sizes d.context d.made.automata w.command ≡ []) (is : m ≡ meant d w) where
   pub asked_is : fault_at d w ≡ asked_fault (parts_of d) m
   asked_is = rw (none, few, is)
@@ -41,8 +41,9 @@ abbrev rest_of : Draft → List Written → Option Located × Parts
 rest_of d ws = (first_from d.context.text d.context.has_topology d.context.number (parts_of d) ws, after_all d.context.text d.context.has_topology d.context.number (parts_of d) ws)
 
 -- The first i commands were read and had no fault. So the first fault of the remaining commands is the first fault of the whole text, and they lead
--- to the script of the whole text. The stages of the remaining commands are in order and start at `from` or later. If `from` is a stage of the
--- header, nothing is defined or asked yet. What holds of every script holds of the script so far.
+-- to the script of the whole text. `left` lists the tokens of each remaining command. The stages of the remaining commands (their places in the
+-- order of commands) never fall, and start at `from` or later. If `from` is a stage of the header, nothing is defined or asked yet. What holds of
+-- every script holds of the script so far.
 pub record Sofar (text : List ℕ) (ws : List Written) (i : ℕ) (d : Draft) : Type 0 where
   pub from : ℕ
   pub left : List (List Lexeme)
@@ -60,7 +61,7 @@ begins text ws d written begun kept =
     subst (Sofar text ws 0) (sym begun)
     (record { from = 0; left = (texts_of (lexemes_of text)).1; are = written.1.1; fresh = λ header. (refl, refl, refl, refl); script = kept; same_text = refl; leads = refl })
 
--- the stage of the first command is at least `from`, and the stage of the command after it is at least `stage_after` of the first
+-- the stage of the first command is at least `from`, and the commands after it are in order, from `stage_after` of the first on
 next_one : (text : List ℕ) (from : ℕ) (ps : List (List Lexeme)) (w : Written) (ws : List Written) → AreCommands text from ps (w ∷ ws)
     → (from ≤ stage_of w) × (left : List (List Lexeme)) × AreCommands text (stage_after w) left ws
 next_one text from [] w ws are = absurd are

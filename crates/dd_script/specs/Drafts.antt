@@ -28,9 +28,9 @@ with_meaning d m = draft_of d.context.text d.context.has_topology (d.context.num
 abbrev pub fault_at : Draft → Written → Option Fault
 fault_at d w = fault_of d.context.text d.context.has_topology d.context.number (parts_of d) w
 
--- The next command has no fault, and this is what it means. The meaning is sound, and the command's number is within the limit on commands. If the
--- command is a query, its pairs are well formed, and neither they, nor the questions about them, nor the query's own question exceeds a limit on
--- scripts.
+-- The next command has no fault, and this is what it means. The meaning is sound: what it sets, defines or asks is in range and fits the script so
+-- far. The command's number is within the limit on commands. If the command is a query, its pairs are well formed, and neither they, nor the
+-- questions about them, nor the query's own question exceeds a limit on scripts.
 pub record Means (d : Draft) (w : Written) (m : Meaning) : Type 0 where
   pub faultless : fault_at d w ≡ None
   pub is : m ≡ meaning_at d.context.text d.context.has_topology d.context.number (parts_of d) w

@@ -9,11 +9,12 @@ use Rattle.dd_pairs.specs.Queries.{comparisons_asked, pairs_of}
 use Rattle.dd_pairs.specs.declared.pair.Pair.{Pair}
 use Rattle.dd_script.specs.Parts.{Parts, LocalRule, Automaton, Query, Setting}
 
--- does the automaton map configurations of the first rule to configurations of the second rule?
+-- does the automaton map the configurations that obey the first rule to configurations that obey the second?
 abbrev pub map_question : Setting → LocalRule → LocalRule → Automaton → Asked
 map_question s x y f = question.box x (goal_of s (image x f y))
 
--- does f map configurations of x to those of y, does g map those of y to those of x, and are f and g inverse to each other on these configurations?
+-- Does f map the configurations that obey x to configurations that obey y? Does g map those that obey y to configurations that obey x? Are f and g
+-- inverse to each other on these configurations?
 abbrev pub conjugacy_question : Setting → LocalRule → LocalRule → Automaton → Automaton → Asked
 conjugacy_question s x y f g =
     question.conjugacy (conjugacy_by x y (pair_of s (image x f y)) (pair_of s (image y g x)) (pair_of s (change x g f)) (pair_of s (change y f g)))

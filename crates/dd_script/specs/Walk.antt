@@ -75,9 +75,10 @@ abbrev pub meaning_at : List ℕ → Bool → ℕ → Parts → Written → Mean
 meaning_at bytes topology n s w = meaning_of (context bytes topology n s) s.automata w.command
 
 -- The first fault of a command: the first of the lowest rank among the faults of the command's text. (Unknown names have the lowest rank, then come
--- repetitions, then wrong dimensions and wrong numbers of items, then exceeded limits.) If there is none, it is the first of the limits that the
--- counts of the command's rule or automaton exceed (its instances, the cells that it reads and its depth). If there is none either, it is
--- `asked_fault` of the command's meaning.
+-- repetitions, then wrong dimensions and wrong numbers of items, then exceeded limits.) If there is none, it is the first limit that the command's
+-- rule or automaton exceeds: on its instances, on how far away it reads cells, or on its depth. (Instances are, roughly, the parts of its formulas
+-- once these are written without variables. The depth is how deep compositions are nested.) If there is none either, it is `asked_fault` of the
+-- command's meaning.
 abbrev pub fault_of : List ℕ → Bool → ℕ → Parts → Written → Option Fault
 fault_of bytes topology n s w =
     option_or (first_fault (written_faults (context bytes topology n s) w))

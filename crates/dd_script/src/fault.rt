@@ -14,7 +14,8 @@ pub enum ScriptKind {
     /// The command is not well formed.
     #[error("not well formed")]
     Syntax,
-    /// This name refers to nothing. Or a configuration gives the symbol with this name to a cell whose node doesn't allow it.
+    /// This name refers to nothing of the kind that must stand there. Or a configuration gives the symbol with this name to a
+    /// cell whose node doesn't allow it.
     #[error("unknown name {0}")]
     Unknown(String),
     /// This name is given twice where it may be given only once. If a discharge has a vector twice, the string is `vector`.
@@ -33,8 +34,7 @@ pub enum ScriptKind {
 
 /// Why a text is not a script. `command` is the number of the first command that is not well formed. If all are well formed, it
 /// is the number of the first command with a fault, and `kind` is the first fault of that command, in the order that `parse`
-/// states. Commands are numbered from 1. The number 0 stands for the text before the first command, and is also given if memory
-/// ran out.
+/// states. Commands are numbered from 1. The number is 0 if some token stands before the first command, or if memory ran out.
 #[derive(Debug, Drop, Error)]
 #[error("command {command}: {kind}")]
 pub struct ScriptFault {

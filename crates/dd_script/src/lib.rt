@@ -2,17 +2,19 @@
 //!
 //! Each position of the lattice has one or more cells, its nodes. A configuration gives each cell a symbol. A rule is a formula
 //! about a cell and the cells near it. A configuration obeys a rule if the rule is true at every cell. An automaton maps
-//! configurations to configurations. The commands of a script's header come first. They set the dimension, the nodes, the
-//! symbols, the topology (the edges between cells), which symbols each node allows, the weights of the symbols, and search
-//! limits. The commands after the header define rules, automata and configurations, and ask queries.
+//! configurations to configurations. It is given by cases, each of them a rule with a symbol, or it is the composition of two
+//! automata. The commands of a script's header come first. They set the dimension, the nodes, the symbols, the topology (the
+//! edges between cells), which symbols each node allows, the weights of the symbols, and search limits. The commands after the
+//! header define rules, automata and periodic configurations, and ask queries.
 //!
 //! Each query asks a question, which holds the rules, automata and configurations themselves, not their names. A box question
 //! has a rule, the premise, and a goal: something that may hold at a position, such as that another rule is broken there. It
 //! asks whether no configuration that obeys the premise has the goal at any position. A query about an image asks whether an
-//! automaton maps the configurations of one rule to those of another. A query about a conjugacy asks whether two automata do
-//! this in both directions and are inverse to each other. The question of such a query consists of box questions about pairs of
-//! automata: can the two automata of a pair differ on a configuration that obeys the premise? A query about an image asks about
-//! one pair, and a query about a conjugacy about four. `Question` describes the other kinds of questions.
+//! automaton maps the configurations that obey one rule to configurations that obey another, the target. A query about a
+//! conjugacy asks whether two automata do this in both directions and are inverse to each other. The question of such a query
+//! consists of box questions, each about a pair of automata: can the two automata of the pair differ on a configuration that
+//! obeys the premise? `dd_pairs` makes the pairs: one for a query about an image, and four for a query about a conjugacy.
+//! `Question` describes the other kinds of questions.
 //!
 //! There are two kinds of limits. A script's search limits (`Limits`) bound the searches for its answers. Beyond them an answer
 //! is UNKNOWN. diddy's limits on scripts (`Limit`) bound what a script may contain, and how much work a question may take. A

@@ -70,7 +70,7 @@ impl Script {
         self.contents.get().known.setting.topology.dim()
     }
 
-    /// The names of the nodes, which are numbered in this order.
+    /// The names of the nodes, which are numbered from 0 in this order.
     pub fn nodes(&self) -> &Names
         ensures value { result.now ≡ self.now.known.setting.nodes }
         ensures kept { IsScriptOf self.now }
@@ -78,7 +78,7 @@ impl Script {
         &self.contents.get().known.setting.nodes
     }
 
-    /// The names of the symbols, which are numbered in this order.
+    /// The names of the symbols, which are numbered from 0 in this order.
     pub fn symbols(&self) -> &Names
         ensures value { result.now ≡ self.now.known.setting.symbols }
         ensures kept { IsScriptOf self.now }
@@ -161,8 +161,8 @@ impl Script {
     ghost use Rattle.dd_script.specs.Questions.{pairs_for};
     ghost use Rattle.dd_script.specs.Asking.{Asks, AreSound};
 
-    /// The pairs of automata that a query of the script asks about. There are none unless the query is about an image or a conjugacy.
-    /// A script doesn't store the pairs, since each may be as large as the script.
+    /// The pairs of automata that a query of the script asks about. There are none unless the query is about an image or a
+    /// conjugacy. A script doesn't store the pairs, since each may be as large as the script.
     ///
     /// # Errors
     /// Memory ran out.

@@ -1,4 +1,4 @@
--- A check accepts the whole output of a run, and its status is that of the run. This is so since the answers are right and hence certificates, and
+-- A check accepts the whole output of a run, and ends with the status of the run. This is so since the answers are right and hence certificates, and
 -- since a text is the text of at most one output.
 use Rattle.std.proofs.Common.{◌≡◌, ℕ, zero, suc, ◌+◌, ◌-◌, ◌<◌, ◌≤◌, List, [], ◌∷◌, ◌++◌, length, max, Bool, true, false, Some, None, refl, ap, sym, subst, ◌∙◌, add-one, append_assoc, arith}
 use Rattle.std.proofs.lemmas.List.Elements.{All-nil, All-cons}

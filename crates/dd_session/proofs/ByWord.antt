@@ -11,7 +11,7 @@ use Rattle.dd_session.proofs.Words.{different, alone, one_sample}
 
 -- ---- what is read and written
 
--- If the words ask for something, all that `IsIdle` says is that the status is not `BadWords`.
+-- If the words ask for something and the status is not `BadWords`, `IsIdle` holds.
 idle_never : {S K : Type 0} (words : List (List ℕ)) (source : Change S) (sink : Change K) (status : Status) → status ≢ BadWords → ¬ AreBad words
     → IsIdle words source sink status
 idle_never words source sink status never asked = record {
@@ -60,7 +60,7 @@ idle_session words source sink bad source_kept sink_kept counts = record {
   faults = counts;
 }
 
--- If nothing is read or written, nothing failed.
+-- If the source and the sink are as they were, so are their counts of faults.
 pub same_counts : {S K : Type 0} (left : S → Option (List ℕ)) (faults : S → ℕ) (held : K → Option (List ℕ)) (failures : K → ℕ) (source : S) (sink : K)
     → KeepsCounts (change left faults source source) (change held failures sink sink)
 same_counts left faults held failures source sink = record { source_faults = omega arith; sink_faults = omega arith }

@@ -1,4 +1,5 @@
 -- What a check of bytes wrote, put together from what its parts wrote.
+-- A comment that only says what happened names the case that its lemma is about.
 use Rattle.std.proofs.Common.{◌≡◌, ◌≤◌, length, inl, inr, ℕ, List, Bool, true, false, codes, string_bytes, refl, sym, ap, subst}
 use Rattle.std.specs.declared.option.Option.{Option}
 use Rattle.dd_certificate.specs.declared.answer.Answer.{Answer}

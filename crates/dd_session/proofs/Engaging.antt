@@ -1,4 +1,5 @@
 -- Which engines are asked as one query after another is answered, and when no engine was asked.
+-- A comment that only says what happened names the case that its lemma is about.
 use Rattle.std.proofs.Common.{◌≡◌, ◌⊎◌, ℕ, ◌+◌, ◌<◌, ◌≤◌, List, [], ◌∷◌, ◌++◌, length, take, get_or, Bool, true, false, Some, None, refl, sym, ◌∙◌, subst, inl, inr, Result, Ok, Err}
 use Rattle.std.proofs.{KnownBytes.Appends-trans, lemmas.Bool.false≢true}
 use Rattle.std.specs.{Prelude.IsSomeAnd, Prelude.IsTrue, Prelude.IfOk, Prelude.OnErr, declared.option.Option.Option, Io.KnownBytes.Appends}
@@ -52,7 +53,7 @@ some_right s (x ∷ xs) ys asks = inr (some_right s xs ys asks)
 pub engaged_none : (s : Parts) (all : List Seen) → Engages (AsksSomeBoxes s []) all all
 engaged_none s all = record { first = λ none. absurd none; nobody = λ _. refl }
 
--- the hypothesis: an engine that was asked after some moment was asked after any earlier moment
+-- the hypothesis: if the first engine still in the roster at the end was asked since some moment, it was asked since each earlier moment
 module _ (earlier : (before between after : List Seen) → Kept before between → FirstAsked between after → FirstAsked before after) where
   -- One more query was answered.
   engaged_more : (s : Parts) (queries : List Query) (q : Query) (a b c : List Seen) → Kept a b
@@ -95,7 +96,7 @@ has_begun P left_old left_new held_old held_new given bytes to_end short same (i
 has_begun P left_old left_new held_old held_new given bytes to_end short same (inr run) =
     inr record { bytes = given; read = to_end; short = short; run = subst (λ (l : List ℕ). Begun held_old held_new l) same run }
 
--- An input that is refused is not run.
+-- If the bytes of the source are known and a run doesn't accept them, `HasBegun` is false, so P holds.
 pub refused_unasked : (P : Type 0) (bytes : List ℕ) (left_old left_new held_old held_new : Option (List ℕ)) → left_old ≡ Some bytes → ¬ IsAccepted bytes
     → P ⊎ HasBegun left_old left_new held_old held_new → P
 refused_unasked P bytes left_old left_new held_old held_new is never (inl p) = p
@@ -124,7 +125,7 @@ pub never_unanswered : (has : Bool) (status : Status) → status ≡ status_of h
 never_unanswered true status is unanswered = let none : ⊥ = subst IsUnanswered is unanswered in none
 never_unanswered false status is unanswered = let none : ⊥ = subst IsUnanswered is unanswered in none
 
--- a session that refuses its input answers no query
+-- the status for a refused input never says that all queries were answered
 pub never_to_end : {K : Type 0} (sink : Change K) (line : List ℕ) (status : Status) → RefusedBy sink line status → IsToEnd status → ⊥
 never_to_end sink line Definite wrote to_end = wrote
 never_to_end sink line SomeUnknown wrote to_end = wrote

@@ -1,4 +1,4 @@
--- The check of answers, one after another.
+-- The check of answers, one after another. A comment that only says what happened names the case that its lemma is about.
 use Rattle.std.proofs.Common.{◌≡◌, ◌⊎◌, inl, inr, ℕ, suc, ◌+◌, ◌-◌, ◌<◌, ◌≤◌, max, List, [], ◌∷◌, ◌++◌, length, get_or, Bool, true, false, ◌||◌, None, Some, refl, sym, ◌∙◌, ap, subst, arith, append-nil, add-one}
 use Rattle.std.proofs.{KnownBytes.Appends-trans, lemmas.Bool.cases_lt, lemmas.Option.slice_get_within, lemmas.Option.slice_get_read}
 use Rattle.std.specs.{Prelude.◌↔◌, Prelude.IsSomeAnd, Prelude.Result, Prelude.Ok, Prelude.Err, Prelude.OnErr, List.slice_get, List.list_any}
@@ -135,7 +135,7 @@ pub below_most : (s : Parts) (answers : List Answer) (queries : List Query) (mos
     → done < most → done < most_of s answers
 below_most s answers queries most done same is less = subst (λ (n : ℕ). done < n) (most_are s answers queries most same is) less
 
--- if the answer with each number is accepted, there are as many answers as queries
+-- if the greatest number, `most`, is that of an answer and also that of a query, there are as many answers as queries
 as_many : (queries answers most : ℕ) → most ≡ max queries answers → (1 ≤ most → (most - 1 < answers) × (most - 1 < queries)) → answers ≡ queries
 as_many queries answers most is within = elim (cases_lt 0 most) [
   | inl some ↦ (let both = within (omega (arith, some)) in omega (arith, is, some, both.0, both.1))

@@ -11,7 +11,7 @@ use Rattle.dd_session.specs.{Answers.AllRight, Answers.IsOpenAs, Answers.has_unk
 use Rattle.dd_session.specs.{Sides.Change, Sides.status_of, Written.WholeOutput, Runs.RanOver, Runs.WholeRun}
 use Rattle.dd_values.specs.lemmas.Booleans.{or_none}
 
--- all right answers to a query of the script have the same first line
+-- any two right answers to a query of the script have the same first line
 abbrev pub AnswersAgree : Parts → Type 0
 AnswersAgree s = (q : Query) (a b : Answer) → Contains s.queries q → Right s q a → Right s q b → SayTheSame a b
 
@@ -45,7 +45,7 @@ pub open_as : (s : Parts) (answers : List Answer) (has : Bool) → AnswersAgree 
 open_as s answers true agree right each is = open_from s s.queries answers right is
 open_as s answers false agree right each is = λ (q, (i, below, at), (b, told, unknown)). none_open s s.queries answers agree right each is q (i, below, at) i below at b told unknown
 
--- if the whole output of a script was written, this was a whole run
+-- if the whole output of a script was written, `WholeRun` holds
 whole_run : (old new : Option (List ℕ)) (bytes : List ℕ) (s : Parts) (has : Bool) → AnswersAgree s → Spells bytes s → WholeOutput old new bytes s has →
     WholeRun old new bytes has
 whole_run old new bytes s has agree spelled output = record {

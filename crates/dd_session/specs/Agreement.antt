@@ -1,4 +1,4 @@
--- The output of a run, and the checks that come to their end.
+-- The output of a run, and the checks that aren't cut short.
 use Rattle.std.specs.Prelude.{◌≡◌, ◌≤◌, ℕ, List, length, Bool}
 use Rattle.dd_values.specs.Bounds.{most_script}
 use Rattle.dd_certificate.specs.declared.answer.Answer.{Answer}
@@ -18,7 +18,7 @@ pub record IsRunOutput (bytes : List ℕ) (s : Parts) (has : Bool) (text : List 
   pub unknown_is : has_unknown answers ≡ has
   pub text_is : text ≡ output_of bytes answers
 
--- The check came to its end: nothing failed, and memory sufficed.
+-- The check wasn't cut short: nothing failed, and memory sufficed.
 abbrev pub IsJudgement : Status → Type 0
 IsJudgement Definite = Unit {0}
 IsJudgement SomeUnknown = Unit {0}

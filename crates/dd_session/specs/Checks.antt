@@ -20,7 +20,7 @@ accepted_line number = codes "query " ++ (decimal number ++ codes " accepted\n")
 abbrev pub rejected_line : ℕ → List ℕ
 rejected_line number = codes "query " ++ (decimal number ++ codes " rejected\n")
 
--- the line after those of all queries: it says how many queries there are
+-- the last line of a check that rejects nothing: it says how many answers there are
 abbrev pub checked_line : ℕ → List ℕ
 checked_line count = codes "checked " ++ (decimal count ++ codes "\n")
 

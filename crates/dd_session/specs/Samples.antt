@@ -8,7 +8,7 @@ use Rattle.dd_session.specs.declared.status.Status.TheVariants.{Definite, SomeUn
 use Rattle.dd_session.specs.{Answers.IsOpenAs, Sides.Change, Sides.IsUntouched, Sides.HasFailed, Written.AnsweredToEnd, Written.AnsweredShort}
 use Rattle.dd_script.specs.declared.fault.ScriptKind.TheVariants as refused
 
--- whether the fault is that memory ran out, so that nothing is known to be wrong with the script
+-- whether the fault is that memory ran out; if it is, nothing is known to be wrong with the script
 abbrev pub is_memory : ScriptKind → Bool
 is_memory refused.Syntax = false
 is_memory (refused.Unknown text) = false
@@ -28,7 +28,7 @@ LinesOf sink s ReadFault = ⊥
 LinesOf sink s BadWords = ⊥
 LinesOf sink s Rejected = ⊥
 
--- The sample with this number is a script, and its lines were written as far as the status says.
+-- The sample with this number is a script, and the first lines of right answers to its queries were written as far as the status says.
 pub record SampleRan {K : Type 0} (sink : Change K) (number : ℕ) (status : Status) : Type 0 where
   pub script : Parts
   pub spelled : Spells (sample_text number) script

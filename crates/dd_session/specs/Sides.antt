@@ -1,8 +1,8 @@
 -- A source or a sink before and after a call, and what was written for an input that is refused. In these specs `left_old` and
 -- `left_new` are the bytes left in a source before and after a call, and `held_old` and `held_new` are the bytes that a sink
--- holds. So are `old` and `new` where their type is `Option (List ℕ)`; elsewhere they are the source, the sink or the roster
--- itself. Bytes are known (`Some`) where contracts can name them, as in memory. They are unknown (`None`) for other sources and
--- sinks, such as standard input and output. Nothing is claimed of unknown bytes.
+-- holds. Where the type of `old` and `new` is `Option (List ℕ)`, they too are the bytes that a sink holds. Elsewhere they are the
+-- source, the sink or the roster itself. Bytes are known (`Some`) where contracts can name them, as in memory. They are unknown
+-- (`None`) for other sources and sinks, such as standard input and output. Nothing is claimed of unknown bytes.
 use Rattle.std.specs.Prelude.{◌≡◌, ◌⊎◌, ℕ, List, Bool, true, false}
 use Rattle.std.specs.{declared.option.Option.Option, Io.KnownBytes.Appends}
 use Rattle.dd_values.specs.Counts.{Rose}

@@ -100,8 +100,8 @@ fn check<S: Source, K: Sink>(alloc: Global, source: &mut S, sink: &mut K) -> Sta
 ///
 /// The line for query K is `query K accepted` or `query K rejected`. A query is rejected if it has no answer, or if its answer
 /// isn't a certificate. An answer without a query is rejected too. The first rejection ends the check. If there is none, the
-/// last line is `checked COUNT`, where COUNT is the number of answers. In this case each answer is a certificate, and what it
-/// claims is true.
+/// last line is `checked COUNT`, where COUNT is the number of answers. In this case each answer is a certificate, what it
+/// claims is true, and the status says whether some answer is UNKNOWN.
 ///
 /// Three kinds of input are refused, each with one line:
 /// - `refused long`: the input has more than `MOST_OUTPUT` bytes.

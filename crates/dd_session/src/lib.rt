@@ -1,11 +1,12 @@
 //! Whole sessions. A session does one of three things: it runs a script and writes its output, it checks such an output, or it
 //! runs a sample, which is a script that the program makes itself. A script asks queries about rules, configurations and
-//! automata. Its output has an answer to each query. Bytes are read from a source and written to a sink.
+//! automata. Its output has an answer to each query. Bytes spell a script if they follow the grammar, have no fault, and mean
+//! this script. Bytes are read from a source and written to a sink.
 //!
-//! `dd_answer` defines which answers to a query are right. All right answers to a query have the same first line. A certificate
-//! is an answer that a check accepts. An output has bounds on its numbers and lists. Each right answer within these bounds is a
-//! certificate, and what a certificate claims is true. An answer is UNKNOWN if its query wasn't settled within the limits on
-//! the work for one answer. All other answers are definite.
+//! `dd_answer` defines which answers to a query are right. Any two right answers to a query have the same first line. A
+//! certificate is an answer that a check accepts. An output has bounds on its numbers and lists. Each right answer within these
+//! bounds is a certificate, and what a certificate claims is true. An answer is UNKNOWN if its query wasn't settled within the
+//! limits on the work for one answer. All other answers are definite.
 //!
 //! Some queries come down to box questions. A box question has a rule (its premise) and a goal: a property of a position, such
 //! as that another rule is broken there. It asks whether no configuration that obeys the premise has the goal at any position.

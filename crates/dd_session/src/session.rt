@@ -238,7 +238,7 @@ fn run_sample<K: Sink, E: Engine>(
 }
 
 /// Does what the words after the program's name ask for: `run`, `check`, or `sample` and a number. With other words it does
-/// nothing.
+/// nothing and returns `BadWords`.
 ///
 /// `run` reads a script from the source and writes its output to the sink, with a right answer to each query. Each answer is
 /// one that an output can hold: its numbers and lists are within their bounds. The status says whether some answer is UNKNOWN.

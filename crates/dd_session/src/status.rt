@@ -1,7 +1,7 @@
 //! How a session ended.
 
-/// How a session ended. The variant's number is the exit code of the program. `Definite` or `SomeUnknown` means, for a run or
-/// the run of a sample, that every query was answered, and for a check, that an answer to every query was accepted.
+/// How a session ended. The variant's number is the exit code of the program. After a run, or the run of a sample, `Definite`
+/// and `SomeUnknown` say that every query was answered. After a check, they say that an answer to every query was accepted.
 #[derive(Clone, Copy, Debug, PartialEq, Eq)]
 pub enum Status {
     /// Every query has a definite answer.

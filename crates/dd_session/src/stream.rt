@@ -112,7 +112,8 @@ fn answer_one<K: Sink, E: Engine>(
     write_one(alloc, form, number, &found, sink)
 }
 
-// Answers all queries in order. Each answer is written before the next one is searched for. True if some answer is UNKNOWN.
+// Answers all queries in order. Each answer is written in this form before the next one is searched for. True if some answer is
+// UNKNOWN.
 #[tactic(auto, using(dd_values::specs::lemmas::Lists::contains_at, crate::proofs::Streamed::answered_next, crate::proofs::Engaging::engaged_next))]
 fn answer_all<K: Sink, E: Engine>(
     alloc: Global,
@@ -139,7 +140,7 @@ fn answer_all<K: Sink, E: Engine>(
     Ok(has_unknown)
 }
 
-/// Answers all queries in order, and writes the answers and the end line. True if some answer is UNKNOWN.
+/// Answers all queries in order, and writes the answers in this form, and the end line. True if some answer is UNKNOWN.
 pub(crate) fn answer_to_end<K: Sink, E: Engine>(
     alloc: Global,
     script: &Script,

@@ -113,7 +113,7 @@ giver_is v p = place_same _ _ _ _ _ _ (less v.x p.x) (less v.y p.y) (less v.z p.
 moved_row : (h q w w' o o' i i' : ℕ) → h + o ≤ q * w + i → o ≡ o' → w ≡ w' → i ≡ i' → h + o' ≤ q * w' + i'
 moved_row h q w w' o o' i i' le a b c = let d : q * w ≡ q * w' = ap (λ (z : ℕ). q * z) b in omega (arith, le, a, c, d)
 
--- what is known of the certificate
+-- what `bound_holds` assumes: a rule, vectors of the rule's dimension, and a certificate of the bound
 record Known (x : LocalRule) (ws : List ℕ) (radius margin : ℕ) (vs : List Place) (b : Bound) : Type 0 where
   rule : IsRule x
   flat : (v : Place) → Contains vs v → is_flat x.dimension v ≡ true

@@ -67,7 +67,7 @@ back x y = omega (arith, ints)
 parted : (x y z : ℤ) → (x -ℤ y) *ℤ z +ℤ y *ℤ z ≡ x *ℤ z
 parted x y z = sym (sum_times (x -ℤ y) y z) ∙ ap (λ (w : ℤ). w *ℤ z) (back x y)
 
--- what goes out and what comes in along one vector
+-- the sum over the columns of one vector, plus what comes in along it, is what goes out along it
 block_total : (m o i : ℕ) (a : List ℕ) → total_below (λ j. (one_at j o -ℤ one_at j i) *ℤ pos (get_or a j 0)) m +ℤ pos (get_or (take m a) i 0) ≡ pos (get_or (take m a) o 0)
 block_total m o i a =
     let both = λ (j : ℕ). (one_at j o -ℤ one_at j i) *ℤ pos (get_or a j 0) in

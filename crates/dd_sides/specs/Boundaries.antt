@@ -4,8 +4,8 @@ use Rattle.std.specs.Prelude.{ℕ, ◌+◌, ◌-◌, ◌*◌, ◌^◌, Bool, con
 use Rattle.dd_lattice.specs.{Place.Place, Boxes.is_active}
 use Rattle.dd_expansion.specs.Limits.{greatest}
 
--- How many coordinates of Side(n) on an axis receive from inside it, where c is the vector's entry for this axis. On an active
--- axis (one of the first d) this is max(0, n - |c|), otherwise 1.
+-- How many coordinates of Side(n) on an axis are left when those that receive from outside are taken away. Here c is the vector's entry for this
+-- axis. On an active axis (one of the first d) this is max(0, n - |c|), otherwise 1.
 abbrev pub left_on : Bool → ℕ → ℤ → ℕ
 left_on active n c = cond active (n - unsigned_abs c) 1
 

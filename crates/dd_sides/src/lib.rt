@@ -1,8 +1,9 @@
 //! Boxes of every side length at every position, and what a discharging bound says of their weight. A box of side n has the
-//! side length n on each axis of Z^d. In a discharge, positions give weight to one another along some vectors: along a vector
-//! v, a position p gives an amount to p + v. A bound is a number such that each position then holds at least this number. It is
-//! certified by amounts with which this is so, and by duals, which show that no amounts do better (see `dd_discharge`). A
-//! filling is admissible if the rule is true at each of its cells where all that the rule reads has a symbol.
+//! side length n on each axis of Z^d. In a discharge, each position first holds the weight of its symbols. Then, along each of
+//! some vectors v, each position p gives an amount to p + v. A bound is a number such that each position holds at least this
+//! number in the end. It is certified by amounts with which this is so, and by duals, which show that no amounts do better (see
+//! `dd_discharge`). A filling is admissible if the rule is true at each of its cells where all that the rule reads has a
+//! symbol.
 #![tactic(auto)]
 
 mod laws;

@@ -86,7 +86,7 @@ in_place_step f fit xs ys i x y p is all e t s =
     let at : fit (get_or xs i x) ≡ true = ap fit (sym same) ∙ t in
     (rw (list_all_more fit xs i x p, all, at) refl, ap (slice_set ys i) s ∙ map_over_more f xs ys i x p e is)
 
--- the numbers of 0 - q fit if those of q do
+-- the numbers of 0 - q fit if the numerator and the denominator of q fit
 pub emptied_fits : (q : Exact) → 0 < q.den → unsigned_abs q.num < 2 ^ 127 → q.den < 2 ^ 127 → does_sum_fit zero_of (minus q) ≡ true
 unfolding one
 emptied_fits q o p r =

@@ -111,7 +111,8 @@ fits_more lines e n h f i p g = ⊎_elim
     (λ (s : i ≢ n). h i (omega (arith, p, s)) g)
     (cases_eq i n)
 
--- what is known after the first n lines
+-- what the first n lines give: the numbers of the ratios of those that limit the entering variable fit, o is the line chosen among them, and `least`
+-- is its ratio, if there is one
 pub record IsFound (lines : List Line) (e n : ℕ) (least : Exact) (o : Option ℕ) : Type 0 where
   pub fit : DoRatiosFit lines e n
   pub chosen : IsChosen (does_limit lines e) (LeavesBefore lines e) n o

@@ -74,7 +74,7 @@ module _ (p : LinearProgram) (d : Dictionary) (g : IsProgram p) (r : IsReached p
       ap (λ (y : Exact). plus y (minus (coefficient p k j))) (column_alone j q (coefficient p k))
       ∙ (plus_low_left (coefficient p k j) (minus (coefficient p k j)) ∙ (plus_minus (coefficient p k j) ∙ sym (zero_times (bound_at p k))))
 
-  -- a sum over columns and slacks
+  -- a sum over all variables is the sum over the columns plus the sum over the slacks
   joined_total : (f u s : ℕ → Exact) → fraction_sum (λ w. times (f w) (joined p u s w)) (count p)
       ≡ plus (fraction_sum (λ j. times (f j) (u j)) p.columns) (fraction_sum (λ k. times (f (p.columns + k)) (s k)) (length p.rows))
   joined_total f u s =

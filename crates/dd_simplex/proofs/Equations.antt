@@ -56,7 +56,7 @@ then_other d e r v h k = rw (eq_other v e h, eq_other v r k) (and_true (d.is_bas
     and_true true = refl
     and_true false = refl
 
--- each coefficient in the new row is that of the old row, divided by the pivot entry
+-- each coefficient in the new row of e is that in the old row of r, divided by the entry of r at e
 pub new_row : (n : ℕ) (d : Dictionary) (e r w : ℕ) → IsPivot n d e r → dictionary_coefficient (pivoted d e r) e w ≡ times (dictionary_coefficient d r w) (inverse (d.entry r e))
 new_row n d e r w t = ⊎_elim at_e (λ (h : w ≢ e). ⊎_elim (at_r h) (λ (k : w ≢ r). other h k (d.is_basic w) refl) (cases_eq w r)) (cases_eq w e)
   where
@@ -88,7 +88,7 @@ gone q = sym (ap (plus q) (times_one (minus q)) ∙ (plus_low_right q (minus q) 
 idle : (a q : Exact) → plus a (times q zero_of) ≡ low a
 idle a q = ap (plus a) (times_zero q) ∙ plus_zero a
 
--- each coefficient in a row that stays, or in the objective, is the old one less a multiple of that in the new row
+-- each new coefficient in a row that stays is the old one less a multiple of the coefficient in the new row of e
 pub row_then : (n : ℕ) (d : Dictionary) (e r v w : ℕ) → IsPivot n d e r → d.is_basic v ≡ true → v ≢ r
     → dictionary_coefficient (pivoted d e r) v w ≡ plus (dictionary_coefficient d v w) (times (minus (d.entry v e)) (dictionary_coefficient (pivoted d e r) e w))
 row_then n d e r v w t b vr = ⊎_elim at_v (λ (f : w ≢ v). ⊎_elim (at_e f) (λ (h : w ≢ e). ⊎_elim (at_r f h) (λ (k : w ≢ r). other f h k (d.is_basic w) refl) (cases_eq w r)) (cases_eq w e)) (cases_eq w v)
@@ -122,6 +122,7 @@ row_then n d e r v w t b vr = ⊎_elim at_v (λ (f : w ≢ v). ⊎_elim (at_e f)
     other f h l true s = rw (eq_other w v f, eq_other w e h, eq_other w r l, s) (sym (idle zero_of (minus q) ∙ zero_is))
     other f h l false s = rw (eq_other w v f, eq_other w e h, eq_other w r l, eq_other v e ve, eq_same e e refl, s) (ap (plus (d.entry v w)) (minus_times q _))
 
+-- each new price is the old one less a multiple of the coefficient in the new row of e
 pub price_then : (n : ℕ) (d : Dictionary) (e r w : ℕ) → IsPivot n d e r
     → price (pivoted d e r) w ≡ plus (price d w) (times (minus (d.cost e)) (dictionary_coefficient (pivoted d e r) e w))
 price_then n d e r w t = ⊎_elim at_e (λ (h : w ≢ e). ⊎_elim (at_r h) (λ (k : w ≢ r). other h k (d.is_basic w) refl) (cases_eq w r)) (cases_eq w e)

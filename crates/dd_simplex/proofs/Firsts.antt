@@ -77,7 +77,7 @@ first_none f (suc n) i h p =
     (λ (s : i ≢ n). first_none f n i g.0 (omega (arith, p, s)))
     (cases_eq i n)
 
--- ---- the place with the smallest key
+-- ---- of the numbers below n with the property f, one at which `key` is least
 pub record IsSmallest (f : ℕ → Bool) (key : ℕ → Exact) (n : ℕ) : Type 0 where
   pub place : ℕ
   pub within : place < n

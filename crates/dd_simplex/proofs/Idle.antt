@@ -12,7 +12,7 @@ use Rattle.dd_fraction.specs.lemmas.Lowest.{low_fraction, exact_same}
 use Rattle.dd_simplex.specs.{Programs.zero_of, table.Lines.IsIdle}
 use Rattle.dd_values.specs.lemmas.{Booleans.and_both, Numbers.times_none}
 
--- a fraction whose numerator is 0 has the denominator 1
+-- a fraction in lowest terms whose numerator is 0 is 0 / 1
 pub zero_fraction_is : (b : Exact) → IsFraction b → b.num ≡ pos 0 → b ≡ zero_of
 zero_fraction_is b f e = exact_same b zero_of e den
   where

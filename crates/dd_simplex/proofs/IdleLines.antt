@@ -1,4 +1,5 @@
--- In a pivot, a line whose cell for the entering variable is 0 stays as it is, and no number in this step is too large.
+-- In a pivot, a line whose cell for the entering variable is 0 stays as it is, and no number in this step is too large. The lines of a table and the
+-- solved line of a pivot consist of fractions in lowest terms that fit.
 use Rattle.std.proofs.Common.{◌≡◌, ◌≢◌, ℕ, suc, ◌<◌, List, [], ◌∷◌, length, drop, true, ◌&&◌, refl, sym, ap, subst, ◌∙◌, arith}
 use Rattle.std.proofs.lemmas.List.{set-get_or}
 use Rattle.std.proofs.lemmas.List.Elements.{All-get_or, All-from_get_or, All-set, All-map, All-drop, All-weaker}

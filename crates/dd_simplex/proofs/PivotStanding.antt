@@ -65,7 +65,8 @@ module _ (n : ℕ) (t : Table) (d : Dictionary) (k : IsTable t) (s : StandsFor n
   abbrev d2 : Dictionary
   d2 = pivoted d E R
 
-  -- the new coefficients of a line or of the objective; the old ones are the list `us` in the table, and the function `a` in the dictionary
+  -- the new coefficients of a line or of the objective are the same in the dictionary and in the table; the old ones are the list `us` in the table,
+  -- and the function `a` in the dictionary
   replaced_at : (q : Exact) (us : List Exact) (a : ℕ → Exact) (j : ℕ) → length us ≡ length t.others → j < length t.others
       → ((i : ℕ) → i < length t.others → a (other_at t.others i) ≡ fraction_at us i)
       → replaced d E R q (other_at new_others j) (a (other_at new_others j)) ≡ fraction_at (less q (slice_set us e zero_of) pivot.cells) j
@@ -218,7 +219,7 @@ module _ (n : ℕ) (t : Table) (d : Dictionary) (k : IsTable t) (s : StandsFor n
     value = λ z. plus (s.value z) (times (s.costs e inside z) (sym (pivot_bound n t d k s e r inside line) z));
   }
 
-  -- ---- where all numbers fit, the table holds fractions again
+  -- ---- if all numbers of the pivot fit, the numbers of the new table are again fractions in lowest terms that fit
   module _ (nonzero : (fraction_at (line_at t.lines r).cells e).num ≢ pos 0) (fit : does_table_fit e r t ≡ true) where
     abbrev p_cell : Exact
     p_cell = fraction_at (line_at t.lines r).cells e
@@ -260,7 +261,7 @@ module _ (n : ℕ) (t : Table) (d : Dictionary) (k : IsTable t) (s : StandsFor n
         subst IsFraction (sym (solved_at E e j (line_at t.lines r) (in_row j p)))
         (product_fraction (fraction_at (slice_set (line_at t.lines r).cells e one_of) j) (inverse p_cell) (divided_above j p) upside.above f)
 
-    -- the coefficients `us`, less q times those of the solved line, are fractions
+    -- if the numbers fit, the coefficients `us`, less q times those of the solved line, are fractions in lowest terms that fit
     less_fractions : (q : Exact) (us : List Exact) (j : ℕ) → length us ≡ length t.others → IsFraction q → ((i : ℕ) → i < length t.others → IsFraction (fraction_at us i))
         → do_all_less_fit q (slice_set us e zero_of) pivot.cells ≡ true → j < length t.others → IsFraction (fraction_at (less q (slice_set us e zero_of) pivot.cells) j)
     less_fractions q us j h o is f p =

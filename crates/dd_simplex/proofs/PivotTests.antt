@@ -30,7 +30,7 @@ less_fraction a q b p o r f =
     let two = IsFraction-minus (times q b) one in
     sum_fraction a (minus (times q b)) p two.above (and_right (does_product_fit q b) (does_sum_fit a (minus (times q b))) f)
 
--- at a place that is set to 0, the numbers of the difference fit if those of the product do
+-- the numbers of 0 - q · b fit if those of q · b do
 emptied_less : (q b : Exact) → 0 < q.den → 0 < b.den → does_product_fit q b ≡ true → does_less_fit zero_of q b ≡ true
 emptied_less q b p r f =
     let g = product_fraction q b p r f in

@@ -41,7 +41,7 @@ take_off n k = omega arith
 put_on : (n v : ℕ) → n ≤ v → n + (v - n) ≡ v
 put_on n v p = omega arith
 
--- a row of the first dictionary says the same as the program's row with its slack
+-- the left side of a row of the first dictionary is the left side of the program's row plus its slack
 pub start_row : (p : LinearProgram) (k : ℕ) (x : ℕ → Exact) → k < length p.rows
     → left_side (count p) (start_dictionary p) x (p.columns + k) ≡ plus (fraction_sum (λ j. times (coefficient p k j) (x j)) p.columns) (x (p.columns + k))
 start_row p k x h =
@@ -70,7 +70,8 @@ start_row p k x h =
         total_pick (λ i. times (dictionary_coefficient (start_dictionary p) (p.columns + k) (p.columns + i)) (x (p.columns + i))) k (length p.rows) h none
         ∙ ap (λ (t : Exact). low (times t (x (p.columns + k)))) one
 
--- columns and slacks that meet each row of the program solve the equations of the first dictionary
+-- if, for each row of the program, its left side and its slack sum to s times its bound, the columns and slacks solve the equations of the first
+-- dictionary after their bounds are multiplied by s
 pub start_holds : (p : LinearProgram) (s : Exact) (x : ℕ → Exact)
     → ((k : ℕ) → k < length p.rows → plus (fraction_sum (λ j. times (coefficient p k j) (x j)) p.columns) (x (p.columns + k)) ≡ times s (bound_at p k))
     → Holds (count p) (start_dictionary p) s x
@@ -128,7 +129,7 @@ bound_sign a b y p q least = ⊎_elim up down (sign_cases a.num)
     down : pos 0 ≤ℤ neg_ℤ a.num → IsNonneg (plus b (minus (times a y)))
     down s = nonneg_plus b _ p (subst IsNonneg (sym (minus_times a y)) (nonneg_times (minus a) y (record { sign = s }) q))
 
--- a pivot in which e enters and r leaves, where the row of r has the least ratio
+-- a pivot in which e enters and r leaves, and no limiting variable has a smaller ratio than r
 pub record IsLeast (n : ℕ) (d : Dictionary) (e r : ℕ) : Type 0 where
   pub pivot : IsPivot n d e r
   pub least : (v : ℕ) → v < n → d.is_basic v ≡ true → IsPositive (d.entry v e) → IsAtMost (ratio d e r) (ratio d e v)

@@ -77,7 +77,7 @@ module _ (n : ℕ) (d : Dictionary) (e : ℕ) (g : Enters n d e) where
           subst IsNonneg (sym (ray_basic d e w k s)) (not_over (d.entry w e) l)
       by k false s = subst IsNonneg (sym (ray_other d e w k s)) zero_nonneg
 
-  -- the objective grows with e
+  -- when e grows by 1, the objective grows by the cost of e
   ray_objective : objective n d zero_of (ray d e) ≡ low (d.cost e)
   ray_objective =
       (λ i. plus (zero_times d.value i) (total_pick (λ w. times (price d w) (ray d e w)) e n g.within other i))

@@ -56,7 +56,8 @@ pub record IsReducedObjective (p : LinearProgram) (d : Dictionary) : Type 0 wher
       → plus (price d j) (fraction_sum (λ k. times (minus (price d (p.columns + k))) (coefficient p k j)) (length p.rows)) ≡ low (unit 0 j)
   pub value : low d.value ≡ fraction_sum (λ k. times (minus (price d (p.columns + k))) (bound_at p k)) (length p.rows)
 
--- The rows and the objective come from those of the program in the ways above, no bound is below 0, and whenever a variable enters, another leaves.
+-- The row of each basic variable is a linear combination of the program's rows, and the objective is column 0, less such a combination. No bound is
+-- below 0. Whenever a variable enters, another leaves.
 pub record IsSoundDictionary (p : LinearProgram) (d : Dictionary) : Type 0 where
   pub rows : (v : ℕ) → v < count p → d.is_basic v ≡ true → IsCombination p d v
   pub objective : IsReducedObjective p d

@@ -1,16 +1,16 @@
--- Linear programs over exact fractions. A column is a variable of the program. Duals are factors for the rows. They serve to show that values of
--- the columns are best.
+-- Linear programs over exact fractions. A column is a variable of the program. Duals are factors for the rows. They serve to show that values of the
+-- columns are best, which means that they make column 0 as great as possible.
 use Rattle.std.specs.Prelude.{◌≡◌, ℕ, zero, suc, ◌<◌, ◌-◌, List, [], ◌∷◌, length, slice_index_or, replicate, cond}
 use Rattle.std.specs.Bool.{nat_eq}
 use lib.IntN.{ℤ, pos}
 use Rattle.dd_fraction.specs.{Exact.Exact, Exact.plus, Exact.times, Exact.whole_of, Order.IsAtMost, Order.IsNonneg}
 
--- "the sum of coefficient times column is at most the bound"
+-- the row "the sum of coefficient times column is at most the bound"
 pub record ProgramRow : Type 0 where
   pub coefficients : List Exact
   pub bound : Exact
 
--- maximise column 0, where each column is at least 0 and each row holds
+-- a linear program: maximise column 0, where each column is at least 0 and each row holds
 pub record LinearProgram : Type 0 where
   pub columns : ℕ
   pub rows : List ProgramRow
@@ -41,7 +41,7 @@ bound_at p k = (row_at p k).bound
 abbrev pub unit : ℕ → ℕ → Exact
 unit v w = cond (nat_eq v w) one_of zero_of
 
--- "column 0 is at most the cap"
+-- the row "column 0 is at most the cap"
 abbrev pub cap_row : ℕ → ℤ → ProgramRow
 cap_row columns cap = record { coefficients = one_of ∷ replicate (columns - 1) zero_of; bound = whole_of cap }
 

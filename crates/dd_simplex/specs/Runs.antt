@@ -41,11 +41,11 @@ entering n d = first_below (may_enter d) n
 abbrev pub ratio : Dictionary → ℕ → ℕ → Exact
 ratio d e v = fraction_quotient (d.bound v) (d.entry v e)
 
--- whether v is basic and falls as e grows
+-- whether v is a limiting variable, which means that it is basic and falls as e grows
 abbrev pub is_limiting : Dictionary → ℕ → ℕ → Bool
 is_limiting d e v = d.is_basic v && is_over (d.entry v e)
 
--- whether v limits e, and no other limiting variable has a smaller ratio
+-- whether v is a limiting variable, and no other limiting variable has a smaller ratio
 abbrev pub may_leave : ℕ → Dictionary → ℕ → ℕ → Bool
 may_leave n d e v =
     is_limiting d e v && all_below (λ u. not (is_limiting d e u) || not (is_gt (exact_cmp (ratio d e v) (ratio d e u)))) n
@@ -62,19 +62,19 @@ does_quotient_fit a b = does_product_fit a (inverse b)
 abbrev pub does_less_fit : Exact → Exact → Exact → Bool
 does_less_fit a q b = does_product_fit q b && does_sum_fit a (minus (times q b))
 
--- whether the numbers of the ratios fit
+-- whether the numbers of the ratios of all limiting variables fit
 abbrev pub do_ratios_fit : ℕ → Dictionary → ℕ → Bool
 do_ratios_fit n d e = all_below (λ v. not (is_limiting d e v) || does_quotient_fit (d.bound v) (d.entry v e)) n
 
--- Whether the numbers of the entering variable's row fit. This row is the row of r divided by its entry at e. Before the
--- division, r has the coefficient 1. The quotient of this 1 is tested at w = e, since r takes the place of e.
+-- Whether the numbers of the entering variable's row fit. This row is the row of r divided by its entry at e. Before the division, r has the
+-- coefficient 1 in it. The quotient of this 1 is tested at w = e, since r takes the place of e.
 abbrev pub does_row_fit : ℕ → Dictionary → ℕ → ℕ → Bool
 does_row_fit n d e r =
     does_quotient_fit (d.bound r) (d.entry r e)
     && all_below (λ w. d.is_basic w || does_quotient_fit (cond (nat_eq w e) one_of (d.entry r w)) (d.entry r e)) n
 
--- Whether the new coefficients of a row or of the objective fit. The old coefficient of each w was `a w`, and that of e was q.
--- The new coefficient of r is tested at w = e, since r takes the place of e.
+-- Whether the numbers of the new coefficients of a row or of the objective fit. The old coefficient of each w was `a w`, and that of e was q. The new
+-- coefficient of r is tested at w = e, since r takes the place of e.
 abbrev pub do_coefficients_fit : ℕ → Dictionary → ℕ → ℕ → Exact → (ℕ → Exact) → Bool
 do_coefficients_fit n d e r q a =
     all_below (λ w. d.is_basic w || cond (nat_eq w e) (does_product_fit q (new_entry d e r r)) (does_less_fit (a w) q (new_entry d e r w))) n
@@ -104,15 +104,17 @@ pub data Stop : Type 0 where
   Overflows : Stop
   -- a variable may enter, but no pivot is left
   AtLimit : Stop
-  -- no variable limits the one that enters; the first row of a program rules this out
+  -- a variable enters, but there is no limiting variable; the first row of a program rules this out
   Unbounded : Stop
 
--- an iteration in which e enters, and then the run `next`. The last argument is the variable that leaves, if there is one.
+-- How a run from d stops if e enters. `next` tells how a run from the dictionary after the pivot stops. The last argument is the variable that
+-- leaves, if there is one.
 abbrev pub iteration : (Dictionary → Stop) → ℕ → Dictionary → ℕ → Option ℕ → Stop
 iteration next n d e None = Unbounded
 iteration next n d e (Some r) = cond (does_iteration_fit n d e r) (next (pivoted d e r)) Overflows
 
--- ends the run if no variable enters; otherwise `go_on` of the variable that enters says how the run stops
+-- How a run from d stops. The last argument is the variable that enters, if there is one. If there is none, the run ends. Otherwise `go_on` of this
+-- variable tells how the run stops.
 abbrev pub iterate_or_end : (ℕ → Stop) → Dictionary → Option ℕ → Stop
 iterate_or_end go_on d None = Ends d
 iterate_or_end go_on d (Some e) = go_on e

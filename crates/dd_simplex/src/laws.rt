@@ -3,8 +3,9 @@ ghost use Rattle.dd_simplex.specs.Laws.{HasOneStop, AreSoundDictionaries};
 
 use crate::program::Program;
 
-/// Does nothing; its contract says that a run stops in exactly one of three ways: it ends with one result, an intermediate
-/// number is greater than 2^127 - 1 in absolute value, or it reaches its limit of pivots.
+/// Does nothing; its contract says that a run of the program with at most `_pivots` pivots stops in exactly one of three ways.
+/// It ends with a result, and there is only one; an intermediate number is greater than 2^127 - 1 in absolute value; or the run
+/// reaches its limit of pivots.
 pub fn one_stop(_program: &Program, _pivots: u32)
     ensures { HasOneStop _program.now _pivots }
 {
@@ -13,8 +14,8 @@ pub fn one_stop(_program: &Program, _pivots: u32)
 }
 
 /// Does nothing; its contract is about the dictionaries of a run. Their rows, which are the equations of the basic variables,
-/// are linear combinations of the program's rows. Their objective is column 0, less such a combination. No bound falls below
-/// 0. Whenever a variable enters, another leaves, so no run finds column 0 unbounded.
+/// are linear combinations of the program's rows. Their objective is column 0, less such a combination. No bound of a basic
+/// variable falls below 0. Whenever a variable enters, another leaves, so no run finds column 0 unbounded.
 pub fn sound_pivots(_program: &Program)
     ensures { AreSoundDictionaries _program.now }
 {

@@ -155,8 +155,8 @@ fn substitute_each(lines: &mut [Line], e: usize, pivot: &Line) -> bool
     true
 }
 
-/// Pivots the lines: solves line `r` for the variable `entering`, which is at the place `e`, and substitutes it into the other
-/// lines. Returns false if a number is too large.
+/// Pivots the lines: solves line `r` for the variable `entering`, which is at the place `e`, and substitutes the solved line
+/// into the other lines. Returns false if a number is too large.
 pub fn pivot_lines(lines: &mut [Line], e: usize, r: usize, entering: usize) -> bool
     requires line { r < length lines.old }
     requires place { e < length (line_at lines.old r).cells }

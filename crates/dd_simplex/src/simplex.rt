@@ -13,8 +13,8 @@ use std::alloc::{AllocError, Global};
 /// meet each row. No other such values give column 0 a greater value. The duals show this (see `Solved`).
 ///
 /// # Errors
-/// - `Memory` if memory ran out. Otherwise:
-/// - `Overflow` exactly when an intermediate number of the run is greater than 2^127 - 1 in absolute value.
+/// `Memory` if memory ran out. If it did not:
+/// - `Overflow` exactly when an intermediate number of the run is greater than 2^127 - 1 in absolute value;
 /// - `Pivots` exactly when a variable may still enter after `pivots` pivots.
 pub fn maximise(alloc: Global, program: &Program, pivots: u32) -> Result<Solved, SimplexFault>
     ensures ends { IfOk result (λ solved. RunEnds program.now pivots solved.value solved.columns solved.duals) }

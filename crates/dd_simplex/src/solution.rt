@@ -9,9 +9,9 @@ use dd_fraction::Fraction;
 use dd_values::Items;
 use std::alloc::{AllocError, Global};
 
-/// The best values for the columns of a program, and duals that show that they are best. Each row has a dual, which is at least
-/// 0. If each row is multiplied by its dual, the sum of the rows has a coefficient of at least 1 in column 0, and of at least 0
-/// in every other column. The bound of this sum is `value`.
+/// The best values for the columns of a program, which make column 0 as great as possible, and duals that show this. Each row
+/// has a dual, which is at least 0. If each row is multiplied by its dual, the sum of the rows has a coefficient of at least 1
+/// in column 0, and of at least 0 in every other column. The bound of this sum is `value`, so column 0 is at most `value`.
 #[derive(Debug, Drop)]
 pub struct Solved {
     /// The greatest value of column 0.
@@ -22,8 +22,8 @@ pub struct Solved {
     pub duals: Items<Fraction>,
 }
 
-/// Reads the solution off the tableau. The value of a basic variable is its bound, and that of a nonbasic one is 0. The dual
-/// of a row is the cost of its slack with the sign changed, or 0 if the slack is basic.
+/// Reads the solution off the tableau. The value of a basic variable is the bound of its line, and that of a nonbasic one is 0.
+/// The dual of a row is the cost of its slack with the sign changed, or 0 if the slack is basic.
 pub fn read_off(alloc: Global, tableau: &Tableau, columns: usize) -> Result<Solved, AllocError>
     requires costs { length tableau.now.costs ≡ length tableau.now.others }
     requires others { (j : ℕ) → j < length tableau.now.others → other_at tableau.now.others j < columns + length tableau.now.lines }

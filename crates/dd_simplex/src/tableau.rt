@@ -17,9 +17,9 @@ use dd_fraction::Fraction;
 use std::cmp::Ordering;
 use std::marker::Model;
 
-/// A line for each basic variable, and the objective `value + sum of cost times variable`. Both are in terms of the nonbasic
-/// variables, which `others` lists. A nonbasic variable's place is its index in `others`. Its cost and its cell in each line
-/// have the same index.
+/// A line for each basic variable, and the objective `value + sum of cost times variable`. The lines and the objective are in
+/// terms of the nonbasic variables, which `others` lists. A nonbasic variable's place is its index in `others`. Its cost and
+/// its cell in each line have the same index.
 #[derive(Drop)]
 pub struct Tableau {
     pub lines: Vec<Line>,
@@ -96,7 +96,8 @@ impl Tableau {
     }
 }
 
-/// Substitutes the solved line `pivot` into the objective. Returns false if a number is too large.
+/// Substitutes the line `pivot`, which is solved for the variable at the place `e`, into the objective. Returns false if a
+/// number is too large.
 fn pivot_objective(value: &mut Fraction, costs: &mut [Fraction], e: usize, pivot: &Line) -> bool
     requires place { e < length costs.old }
     requires size { length costs.old ≡ length pivot.now.cells }
@@ -116,8 +117,8 @@ fn pivot_objective(value: &mut Fraction, costs: &mut [Fraction], e: usize, pivot
     subtract(costs, &factor, pivot.cells.as_slice())
 }
 
-/// Returns the place of the variable that enters: the lowest-numbered variable whose cost is greater than 0. `None` if there
-/// is no such variable.
+/// Returns the place of the variable that enters: the lowest-numbered variable whose cost is greater than 0. Returns `None` if
+/// there is no such variable.
 pub fn entering(costs: &[Fraction], others: &[usize]) -> Option<usize>
     requires { length costs.now ≡ length others.now }
     ensures { IsChosen (does_enter costs.now) (EntersBefore others.now) (length costs.now) result }
@@ -135,12 +136,12 @@ pub fn entering(costs: &[Fraction], others: &[usize]) -> Option<usize>
     chosen
 }
 
-/// Returns the line whose variable leaves. Of the lines whose cell at `e` is greater than 0, this is the one with the least
-/// ratio of bound to cell. If several have this ratio, it is the one with the lowest-numbered basic variable. `None` if no
-/// cell at `e` is greater than 0.
+/// Returns the index of the line whose variable leaves. Of the lines whose cell at `e` is greater than 0, this is the one with
+/// the least ratio of bound to cell. If several have this ratio, it is the one with the lowest-numbered basic variable. Returns
+/// `None` if no cell at `e` is greater than 0.
 ///
 /// # Errors
-/// `Overflow` if a number of a ratio is too large.
+/// `Overflow` if an intermediate number of a ratio is too large.
 pub fn leaving(lines: &[Line], e: usize) -> Result<Option<usize>, SimplexFault>
     requires sizes { All (λ (l : LineValue). e < length l.cells) lines.now }
     ensures line { MatchResult result

@@ -10,8 +10,8 @@ use Rattle.dd_solver.specs.{declared.analysis.Backjump.Backjump, declared.analys
 use Rattle.dd_solver.specs.searching.Analysis.{marks, ChoiceSays, Asserts}
 use Rattle.dd_solver.proofs.{Forcing.in_left, Forcing.in_cases, Forcing.in_one, Forcing.forced_from, Trails.apart}
 
--- The backjump's literal is the negated literal of an entry at the backjump's place or later. The other learned literals are false before that
--- place. No entry from that place up to but excluding place i is marked.
+-- The backjump's place is that of a decision. The backjump's literal is learned, and is the negated literal of an entry at this place or later. The
+-- entries before this place make the other learned literals false. No entry from this place up to but excluding place i is marked.
 pub record BackjumpOk (trail : List Entry) (i : ℕ) (marked : List Bool) (learned : List Literal) (t : Backjump) : Type 0 where
   pub top : (u : ℕ) × (t.place ≤ u) × (u < length trail) × ((d : Entry) → t.literal ≡ negation (get_or trail u d).literal)
   pub decided : (d : Entry) → (get_or trail t.place d).reason ≡ None
@@ -27,7 +27,7 @@ pub backjump_past : (trail : List Entry) (j : ℕ) (marked : List Bool) (learned
 backjump_past trail j marked learned None h = h
 backjump_past trail j marked learned (Some t) h = record { top = h.top; decided = h.decided; member = h.member; others = h.others; between = λ k d a b. h.between k d a (omega arith) }
 
--- a marked entry that the walk has not reached yet stands before the backjump's place
+-- the entry that the walk comes to next stands before the backjump's place, if it is marked
 before : (trail : List Entry) (j : ℕ) (d : Entry) (marked : List Bool) (learned : List Literal) (t : Backjump) → marks marked (get_or trail j d).literal ≡ true → BackjumpOk trail (j + 1) marked learned t → j < t.place
 before trail j d marked learned t m h = elim (cases_lt j t.place) [ inl b ↦ b | inr b ↦ absurd (false≢true (sym (h.between j d b (omega arith)) ∙ m)) ]
 

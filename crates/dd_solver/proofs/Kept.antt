@@ -53,12 +53,13 @@ pub record IsPlanned (keep : ℕ → Bool) (rename : ℕ → ℕ) (next last : �
   pub end : is_empty steps ≡ true → m ≡ true
   pub needed : m ≡ true → (is_empty steps ≡ true) ⊎ (hinted_by next marked steps ≡ true)
 
+-- `IsPlanned` holds for each step
 abbrev pub Plan : (keep : ℕ → Bool) (rename : ℕ → ℕ) → ℕ → ℕ → List Bool → List Step → Type 0
 Plan keep rename next last [] steps = Unit {0}
 Plan keep rename next last (m ∷ marked) [] = Unit {0}
 Plan keep rename next last (m ∷ marked) (s ∷ steps) = IsPlanned keep rename next last m s marked steps × Plan keep rename (suc next) (cond m (suc last) last) marked steps
 
--- each kept clause is known under its new number
+-- each kept clause that is in `old` is in `new` under its new number
 abbrev pub Agree : (ℕ → Bool) → (ℕ → ℕ) → Known → Known → Type 0
 Agree keep rename old new = (h : ℕ) (x : List Literal) → keep h ≡ true → clause_of old h ≡ Some x → clause_of new (rename h) ≡ Some x
 

@@ -1,5 +1,5 @@
--- The walk down the trail. At each place, the hints so far lead to a conflict from the literals that may be false there. At the bottom, these are the
--- literals of the learned clause, so the hints show that it follows. This holds whichever entries are kept or resolved.
+-- The walk down the trail. At each place, the hints so far lead to a conflict if the literals of a list that `Start` allows are false. At the bottom
+-- of the trail, these are the literals of the learned clause, so the hints show that it follows. This holds whichever entries are kept or resolved.
 use Rattle.std.proofs.Common.{◌≡◌, ℕ, ◌+◌, ◌<◌, ◌≤◌, Bool, true, false, not, ◌&&◌, List, [], ◌∷◌, ◌++◌, Option, Some, None, refl, ap, sym, ◌∙◌, subst, length, get_or, take, eqb, inl, inr, ◌⊎◌, arith}
 use Rattle.std.proofs.lemmas.Bool.{and_parts, and_from, or_cases, or_left, or_right, not-true, false≢true, false_from_ne_true, cases_eq, le-leb, ne_eqb}
 use Rattle.std.proofs.lemmas.List.Folds.{list_any-append}
@@ -16,30 +16,30 @@ use Rattle.dd_solver.specs.searching.Analysis.{marks, Grows, AreMarked, IsMarked
 use Rattle.dd_solver.proofs.Forcing.{in_left, in_right, in_cases, in_one, falsified_all, all_falsified, forced_from, hint_clause, at_clause}
 use Rattle.dd_solver.proofs.Trails.{apart}
 
--- `start` holds literals that may be false once the hints for the entries before place i have been followed: all learned literals, the negated
--- literals of all marked entries before i, and perhaps those of other entries before i
+-- `start` holds literals that are taken to be false when the walk has come down to place i: all literals learned so far, the negated literals of all
+-- marked entries before i, perhaps those of other entries before i, and no others
 pub record Start (trail : List Entry) (i : ℕ) (marked : List Bool) (learned start : List Literal) : Type 0 where
   pub within : (x : Literal) → In start x → (In (falses (take i trail)) x) ⊎ (In learned x)
   pub learned_in : (x : Literal) → In learned x → In start x
   pub marked_in : (k : ℕ) (d : Entry) → k < i → marks marked (get_or trail k d).literal ≡ true → In start (negation (get_or trail k d).literal)
 
--- from each such start the hints lead to a conflict
+-- from each such start the hints so far lead to a conflict
 abbrev pub Leads : List (Option (List Literal)) → List Entry → ℕ → List Bool → List Literal → List ℕ → Type 0
 Leads known trail i marked learned hints =
     (start : List Literal) → Start trail i marked learned start → is_conflict known start hints ≡ true
 
--- each learned literal is the negation of an entry at place i or later
+-- each learned literal is the negated literal of an entry at place i or later
 abbrev pub AreFrom : List Entry → ℕ → List Literal → Type 0
 AreFrom trail i learned = (x : Literal) → In learned x → (k : ℕ) × (i ≤ k) × (k < length trail) × ((d : Entry) → negation (get_or trail k d).literal ≡ x)
 
--- the variables of the clause with this number are marked
+-- the variables of the clause with this number are marked, if there is such a clause; this restates `IsMarkedClause`
 abbrev pub Covers : List (Option (List Literal)) → List Bool → ℕ → Type 0
 Covers known marked r = (c : List Literal) → clause_of known r ≡ Some c → (x : Literal) → In c x → marks marked x ≡ true
 
 pub covers_from : (known : List (Option (List Literal))) (marked : List Bool) (r : ℕ) → IsMarkedClause known marked r → Covers known marked r
 covers_from known marked r h c e = let m : AreMarked marked c = subst (λ (o : Option (List Literal)). MatchOption o ⊤ (AreMarked marked)) e h in m
 
--- at the top of the trail, once the variables of the falsified clause are marked, its number alone, as a hint, leads to a conflict
+-- at the top of the trail: if the variables of a falsified clause are marked, its number as the only hint leads to a conflict
 pub leads_conflict : (known : List (Option (List Literal))) (trail : List Entry) (marked : List Bool) (r : ℕ) → hint_finding known (is_among (falses trail)) r ≡ Falsified → Covers known marked r → Leads known trail (length trail) marked [] (r ∷ [])
 leads_conflict known trail marked r h m start s =
     let q = hint_clause known (is_among (falses trail)) r Falsified (λ e. cc) h in
@@ -53,7 +53,7 @@ leads_conflict known trail marked r h m start s =
 below_or_at : (k j : ℕ) → k < j + 1 → (k < j) ⊎ (k ≡ j)
 below_or_at k j h = elim (cases_eq k j) [ inl e ↦ inr e | inr n ↦ inl (omega arith) ]
 
--- the walk goes past an entry that is not marked
+-- if `Leads` holds at place j + 1 and the entry at j is not marked, it holds at j
 pub leads_past : (known : List (Option (List Literal))) (trail : List Entry) (j : ℕ) (d : Entry) (marked : List Bool) (learned : List Literal) (hints : List ℕ) → j < length trail → marks marked (get_or trail j d).literal ≡ false → Leads known trail (j + 1) marked learned hints → Leads known trail j marked learned hints
 leads_past known trail j d marked learned hints l u leads start s = leads start (record {
   within = λ x i. elim (s.within x i) [ inl a ↦ inl (rw (falses-more trail j d l) (in_left _ _ x a)) | inr a ↦ inr a ];
@@ -64,7 +64,7 @@ leads_past known trail j d marked learned hints l u leads start s = leads start 
   ];
 })
 
--- the walk keeps an entry
+-- if `Leads` holds at place j + 1 and the entry at j is kept, it holds at j
 pub leads_kept : (known : List (Option (List Literal))) (trail : List Entry) (j : ℕ) (d : Entry) (marked : List Bool) (learned : List Literal) (hints : List ℕ) → j < length trail → Leads known trail (j + 1) marked learned hints → Leads known trail j marked (learned ++ negation (get_or trail j d).literal ∷ []) hints
 leads_kept known trail j d marked learned hints l leads start s =
     let here : In (falses (take (j + 1) trail)) (negation (get_or trail j d).literal) = rw (falses-more trail j d l) (in_right (falses (take j trail)) _ _ (in_here [] (negation (get_or trail j d).literal))) in
@@ -85,7 +85,7 @@ leads_kept known trail j d marked learned hints l leads start s =
     })
 
 module _ (n : ℕ) (known : List (Option (List Literal))) (trail : List Entry) (ok : IsTrail n known trail) where
-  -- no literal of `start` has the entry's variable
+  -- no literal of `start` has the variable of the entry at j
   new_variable : (j : ℕ) (d : Entry) (marked : List Bool) (learned start : List Literal) (x : Literal) → j < length trail → AreFrom trail (j + 1) learned → Start trail j marked learned start → x.variable ≡ (get_or trail j d).literal.variable → is_among start x ≡ false
   new_variable j d marked learned start x l later s v = false_from_ne_true (is_among start x) (λ i. elim (s.within x i) [
     | inl a ↦ (let w = in_falses_take trail j x (omega arith) a in
@@ -94,7 +94,7 @@ module _ (n : ℕ) (known : List (Option (List Literal))) (trail : List Entry) (
         apart n known trail ok j w.0 d (omega arith) w.2 (sym (ap (λ (y : Literal). y.variable) (w.3 d) ∙ v)))
   ])
 
-  -- the walk resolves an entry with the clause that forced it
+  -- if `Leads` holds at place j + 1 and the entry at j is resolved with its reason, it holds at j
   pub leads_forced : (j : ℕ) (d : Entry) (marked marked' : List Bool) (learned : List Literal) (hints : List ℕ) (r : ℕ) → j < length trail → (get_or trail j d).reason ≡ Some r → AreFrom trail (j + 1) learned → Grows marked marked' → Covers known marked' r → Leads known trail (j + 1) marked learned hints → Leads known trail j marked' learned (r ∷ hints)
   leads_forced j d marked marked' learned hints r l reason later grows covers leads start s =
       let e = get_or trail j d in
@@ -125,7 +125,7 @@ module _ (n : ℕ) (known : List (Option (List Literal))) (trail : List Entry) (
         ];
       }))
 
-  -- the variable of a kept literal differs from those of the literals kept before
+  -- with one more kept entry, the learned clause's variables are still distinct and in range
   pub proper_more : (j : ℕ) (d : Entry) (learned : List Literal) → j < length trail → AreFrom trail (j + 1) learned → is_proper n learned ≡ true → is_proper n (learned ++ negation (get_or trail j d).literal ∷ []) ≡ true
   proper_more j d learned l later p =
       let r = (ok j d l).in_range in

@@ -1,4 +1,4 @@
--- What holds before and after each move of the search.
+-- Each move of the search keeps its invariant. A move adds an entry, cuts the trail, or adds a learned step.
 use Rattle.std.proofs.Common.{◌≡◌, ℕ, zero, suc, ◌+◌, ◌<◌, ◌≤◌, Bool, true, false, not, List, [], ◌∷◌, ◌++◌, Option, Some, None, refl, ap, sym, ◌∙◌, subst, length, get_or, take, inl, inr, arith}
 use Rattle.std.proofs.lemmas.Bool.{or_cases, and_parts, cases_lt, false≢true, true_from_ne_false, false_from_ne_true}
 use Rattle.std.proofs.lemmas.List.{length-append, length-replicate, append-nil}
@@ -28,12 +28,13 @@ all_in P (y ∷ c) x a i = elim (or_cases (same_literal x y) (is_among c x) i) [
   | inr j ↦ all_in P c x (All-tail P y c a) j
 ]
 
--- a forced literal is in range, and by the next lemma no false literal has its variable
+-- a forced literal is in range
 pub forced_in_range : (known : Known) (n : ℕ) (p : Literal → Bool) (r : ℕ) (l : Literal) → AreInRange n known → hint_finding known p r ≡ Forced l → IsLiteralInRange n l
 forced_in_range known n p r l a h =
     let q = hint_clause known p r (Forced l) (λ e. cc) h in
     all_in (IsLiteralInRange n) q.0 l (a r q.0 q.1) (forces_from p q.0 l q.2).member
 
+-- no false literal has the variable of a forced literal
 pub forced_new : (known : List (Option (List Literal))) (xs : List Literal) (r : ℕ) (l : Literal) → hint_finding known (is_among xs) r ≡ Forced l → has_variable l.variable xs ≡ false
 forced_new known xs r l h = false_from_ne_true _ (λ t.
     let q = hint_clause known (is_among xs) r (Forced l) (λ e. cc) h in
@@ -44,7 +45,7 @@ forced_new known xs r l h = false_from_ne_true _ (λ t.
       | inr e ↦ false≢true (sym f.not_true ∙ subst (In xs) e w.1)
     ])
 
--- if each clause says `Open`, `hint_finding` is `Open` for every number, because a number without a clause falsifies nothing and forces nothing
+-- if `hint_finding` is `Open` for each number from 1 to the last one, it is `Open` for every number, because no other number has a clause
 pub all_open : (known : Known) (p : Literal → Bool) → ((r : ℕ) → 0 < r → r ≤ length known → hint_finding known p r ≡ Open) → (r : ℕ) → hint_finding known p r ≡ Open
 all_open known p h zero = refl
 all_open known p h (suc k) = elim (cases_lt (length known) (suc k)) [
@@ -80,7 +81,7 @@ module _ (n : ℕ) (cs : List (List Literal)) (steps : List Step) (trail : List 
         derived = derived_more n (all_known cs) steps t s.derived (right_from n before t r m.deletable);
       }
 
-  -- the new step's clause forces a literal, or the steps refute the clauses
+  -- after a learned step, its clause forces the backjump's literal once the trail is cut, or the steps refute the clauses
   pub goes_on : (t : Step) (backjump : Option Backjump) → is_rightly_learned n (known_through (all_known cs) steps) t.clause t.hints ≡ true → MayDelete (known_through (all_known cs) steps) (length cs) trail t.deletes → MatchOption backjump (t.clause ≡ []) (Asserts trail t.clause) → GoesOn (record { variables = n; clauses = cs; steps = steps ++ t ∷ []; entries = trail }) backjump
   goes_on t None r m e = refutes_last n (all_known cs) steps t s.derived (right_from n (known_through (all_known cs) steps) t r m.deletable) e
   goes_on t (Some u) r m e =
@@ -107,7 +108,7 @@ alive_first cs alive e = record {
   same = rw (append-nil cs, e) (all_alive cs);
 }
 
--- after a step, its clause is alive, and the clauses that it deletes are not
+-- `alive` is still right after a step, if the step's clause is marked as alive and the clauses that it deletes as not alive
 pub alive_more : (cs : List (List Literal)) (steps : List Step) (alive after : List Bool) (s : Step) → AreAlive cs steps alive → length after ≡ length alive + 1 → ((xs : List (List Literal)) → known_of xs after ≡ known_after (known_of xs (alive ++ true ∷ [])) s.deletes) → are_deletable (known_through (all_known cs) steps) s.deletes ≡ true → AreAlive cs (steps ++ s ∷ []) after
 alive_more cs steps alive after s ok l a d =
     let before = clauses_before cs steps in

@@ -128,7 +128,7 @@ pub all_alive : (cs : List (List Literal)) → known_of cs (replicate (length cs
 all_alive [] = refl
 all_alive (c ∷ cs) = ap (λ (ys : Known). Some c ∷ ys) (all_alive cs)
 
--- ---- deletion, with one more number or one more clause
+-- ---- deletion from a list with one more clause, deletion of one more clause, and the clauses that are not deleted
 
 some_set : (known : Known) (o : Option (List Literal)) (k : ℕ) → is_some (at known k) ≡ true → slice_set (known ++ o ∷ []) k None ≡ slice_set known k None ++ o ∷ []
 some_set [] o k h = absurd (false≢true h)

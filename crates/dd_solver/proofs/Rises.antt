@@ -1,4 +1,4 @@
--- The search ends: the trail's number is below 3 ^ n, and rises at each propagation, decision and backjump.
+-- The search ends: the trail's number is below 3 ^ n, and rises with each entry that is added and with each backjump.
 use Rattle.std.proofs.Common.{◌≡◌, ℕ, zero, suc, ◌-◌, ◌*◌, ◌^◌, ◌<◌, Bool, true, false, List, [], ◌∷◌, ◌++◌, length, refl, sym, arith, take, drop, get_or, take-append-drop, drop-cons, ap, ◌∙◌}
 use Rattle.std.proofs.{lemmas.List.map-append, Math.Nat.pow-succ'}
 use Rattle.std.specs.Option.{is_none}

@@ -4,7 +4,8 @@ use Rattle.std.proofs.lemmas.Bool.{false≢true}
 use Rattle.dd_derivation.specs.Derivations.{clause_of, are_deletable, known_after}
 use Rattle.dd_solver.proofs.Numbers.{Known, after_more, deletable_more, other_number}
 
--- the clauses with the numbers taken so far can be deleted; these numbers are chosen, above `first`, and below `place`
+-- The clauses with the numbers taken so far can be deleted. If they are, a clause stays if it is not chosen, or if its number is at most `first` or
+-- at least `place`.
 pub record Taken (known : Known) (first place : ℕ) (chosen : List Bool) (deletes : List ℕ) : Type 0 where
   pub deletable : are_deletable known deletes ≡ true
   pub first_stay : (h : ℕ) → h ≤ first → clause_of (known_after known deletes) h ≡ clause_of known h

@@ -1,9 +1,6 @@
-//! The clause that is learned from a conflict. The analysis marks the variables of the conflict. Then it walks down the trail,
-//! from the newest entry to the oldest, and resolves or keeps each entry whose variable is marked. To resolve an entry means to
-//! resolve with the clause that forced it. The variables of this clause are marked too. If an entry is kept, the negation of
-//! its literal goes into the learned clause. The first entry that is kept is the first unique implication point (Marques-Silva
-//! and Sakallah 1999). Whatever is kept, the learned clause follows: the numbers of the conflict and of the resolved clauses
-//! are hints that show this. So no contract says which entries are best kept.
+//! The clause that is learned from a conflict, by a walk down the trail. The first entry that is kept is the first unique
+//! implication point (Marques-Silva and Sakallah 1999). Whatever is kept, the learned clause follows: the numbers of the
+//! conflict and of the resolved entries' reasons are hints that show this. So no contract says which entries are best kept.
 ghost use Rattle.std.specs.Prelude.{◌≡◌, ℕ, ◌<◌, ◌≤◌, true, [], length, IfOk, MatchOption, slice_index_or, ⊤};
 ghost use Rattle.dd_clause.specs.Clauses.{IsLiteralInRange, IsClauseInRange};
 ghost use Rattle.dd_derivation.specs.declared.propagation.Finding.TheVariants.{Falsified};
@@ -20,8 +17,8 @@ use std::alloc::{AllocError, Global};
 /// The lists that an analysis makes have room for this many items at first. Most don't grow longer.
 const USUAL_LENGTH: usize = 128;
 
-/// Where the search goes back to. The place is that of a decision on the trail. Once the entries from that place on are removed,
-/// the learned clause forces the literal.
+/// Where the search goes back to. The place is that of a decision on the trail. Once the entries from that place on are
+/// removed, the learned clause forces the literal.
 #[derive(Clone, Copy)]
 pub(crate) struct Backjump {
     pub place: usize,
@@ -33,15 +30,16 @@ pub(crate) struct Backjump {
 pub(crate) struct Learned {
     /// The literals of the learned clause.
     pub literals: Vec<Literal>,
+    /// The numbers of the clauses that show that the learned clause follows. The conflict's number comes last.
     pub hints: Vec<u64>,
-    /// The variables of the conflict and of the resolved clauses, each once.
+    /// The variables of the conflict and of the resolved entries' reasons, each once.
     pub variables: Vec<u32>,
     /// Where the search goes back to. An empty clause has no backjump.
     pub backjump: Option<Backjump>,
 }
 
-/// What to do with a marked entry: resolve it with the clause that forced it, which is given by its number, or keep it. The first
-/// entry that is kept determines the backjump.
+/// What to do with a marked entry. `Resolve` gives the number of the entry's reason. `Keep` gives the backjump, which is that
+/// of the first entry kept.
 #[derive(Clone, Copy)]
 pub(crate) enum Choice {
     Resolve(u64),
@@ -54,8 +52,8 @@ fn is_marked(marked: &[bool], literal: Literal) -> bool {
     variable >= 1 && variable <= marked.len() && marked[variable - 1]
 }
 
-/// Marks the variables of the literals. Returns how many of the newly marked variables are latest: they got their values by the
-/// last decision or after it.
+/// Marks the variables of the literals. Returns how many of the newly marked variables are latest. A variable is latest if no
+/// decision stands after its entry on the trail.
 fn mark_literals(trail: &Trail, marked: &mut [bool], literals: &[Literal]) -> usize
     requires { IsClauseInRange (length marked.old) literals.now }
     ensures grows { Grows marked.old marked.new }
@@ -71,7 +69,8 @@ fn mark_literals(trail: &Trail, marked: &mut [bool], literals: &[Literal]) -> us
     latest
 }
 
-/// Marks the variables of the clause with this number. Returns the same count as `mark_literals`.
+/// Marks the variables of the clause with this number. Returns the same count as `mark_literals`. If there is no such clause,
+/// marks nothing and returns 0.
 fn mark_clause(database: &Database, trail: &Trail, marked: &mut [bool], number: u64) -> usize
     requires { AreInRange (length marked.old) database.now }
     ensures grows { Grows marked.old marked.new }
@@ -83,8 +82,8 @@ fn mark_clause(database: &Database, trail: &Trail, marked: &mut [bool], number: 
     }
 }
 
-/// Whether all variables of the clause with this number, except that of `literal`, are marked. Then resolving with this clause
-/// adds nothing.
+/// Whether there is a clause with this number, and all of its variables, except that of `literal`, are marked. If so, resolving
+/// with this clause marks no further variable.
 fn adds_nothing(database: &Database, marked: &[bool], number: u64, literal: Literal) -> bool {
     let Some(literals) = database.find_clause(number) else {
         return false;
@@ -98,6 +97,7 @@ fn adds_nothing(database: &Database, marked: &[bool], number: u64, literal: Lite
 }
 
 /// The place of the earliest decision, at or before `top`, such that no entry from there up to but excluding `top` is marked.
+/// `None` if there is no such decision.
 fn find_place(entries: &[Entry], marked: &[bool], top: usize) -> Option<usize>
     requires top { top < length entries.now }
     requires in_range { (k : ℕ) (d : Entry) → k < length entries.now → IsLiteralInRange (length marked.now) (slice_index_or entries.now k d).literal }
@@ -119,8 +119,8 @@ fn find_place(entries: &[Entry], marked: &[bool], top: usize) -> Option<usize>
     place
 }
 
-/// The backjump that makes the literal of the entry at this place false. It goes back to the earliest decision, at this place or
-/// before it, such that no entry from there up to but excluding this place is marked. `None` if there is no such decision.
+/// The backjump that makes the literal of the entry at this place false. It goes back to the earliest decision, at this place
+/// or before it, such that no entry from there up to but excluding this place is marked. `None` if there is no such decision.
 fn backjump_at(entries: &[Entry], marked: &[bool], place: usize) -> Option<Backjump>
     requires place { place < length entries.now }
     requires in_range { (k : ℕ) (d : Entry) → k < length entries.now → IsLiteralInRange (length marked.now) (slice_index_or entries.now k d).literal }
@@ -150,10 +150,10 @@ fn backjump_at_decision(entries: &[Entry], marked: &[bool], place: usize) -> Bac
 }
 
 /// Chooses what to do with the marked entry at this place. `backjump` is that of the first entry kept, or `None` if none has
-/// been kept yet. `open` is the number of marked entries before this place that are latest. A decision is kept. As long as no
-/// entry has been kept, a forced entry is resolved if `open` is above 0 or there is no backjump for it. Once an entry has been
-/// kept, a forced entry is resolved if its clause adds nothing or it comes before every decision. In all other cases it is
-/// kept.
+/// been kept yet. `open` is the number of marked entries before this place whose variables are latest. A decision is kept. As
+/// long as no entry has been kept, a forced entry is resolved if `open` is above 0 or `backjump_at` finds no backjump for it.
+/// Once an entry has been kept, a forced entry is resolved if it stands before every decision, or if resolving with its reason
+/// adds nothing (see `adds_nothing`). In all other cases a forced entry is kept.
 fn choose(
     database: &Database,
     trail: &Trail,
@@ -191,8 +191,8 @@ fn choose(
     }
 }
 
-/// Learns a clause by walking down the trail. `conflict` is the number of a clause whose literals are all false. The walk begins
-/// by marking the variables of this clause.
+/// Learns a clause by walking down the trail. `conflict` is the number of a clause whose literals are all false. The walk
+/// begins by marking the variables of this clause.
 fn walk_down(
     alloc: Global,
     database: &Database,
@@ -250,8 +250,8 @@ fn take_mark(marked: &mut [bool], literal: Literal) -> bool {
     false
 }
 
-/// Unmarks the variables of a clause. Those that were marked become more active, unless they are fixed. More active variables are
-/// decided earlier. A variable is fixed if it got its value before the first decision.
+/// Unmarks the variables of a clause. Those that were marked become more active, unless they are fixed. More active variables
+/// are decided earlier. A variable is fixed if its entry stands before every decision.
 fn bump_marked(order: &mut Order, trail: &Trail, marked: &mut [bool], literals: &[Literal]) {
     for literal in literals {
         if take_mark(marked, *literal) && !trail.is_fixed(literal.variable) {
@@ -280,7 +280,7 @@ fn bump_kept(order: &mut Order, literals: &[Literal]) {
     }
 }
 
-/// For each of these literals, marks the variables of the clause that forced the value of the literal's variable.
+/// For each of these literals whose variable was not decided, marks the variables of the clause that forced it.
 fn mark_reasons(database: &Database, trail: &Trail, marked: &mut [bool], literals: &[Literal])
     requires { AreInRange (length marked.old) database.now }
 {
@@ -291,7 +291,7 @@ fn mark_reasons(database: &Database, trail: &Trail, marked: &mut [bool], literal
     }
 }
 
-/// For each of these literals, calls `bump_marked` for the clause that forced the value of the literal's variable.
+/// For each of these literals whose variable was not decided, calls `bump_marked` for the clause that forced it.
 fn bump_reasons(
     order: &mut Order,
     database: &Database,
@@ -308,8 +308,8 @@ fn bump_reasons(
     }
 }
 
-/// Makes the variables of the learned clause more active once again, and then the variables of the clauses that forced their
-/// values, unless they are fixed.
+/// Makes the variables of the learned clause more active once again. Then does the same for the variables of the clauses that
+/// forced them, once for each variable, unless it is fixed.
 fn bump_again(
     order: &mut Order,
     database: &Database,
@@ -325,8 +325,8 @@ fn bump_again(
 }
 
 /// Learns a clause from a conflict: `conflict` is the number of a clause whose literals are all false. The variables of the
-/// clauses in the hints become more active, unless they are fixed. In the broad style, `bump_again` makes some variables more
-/// active after that.
+/// clauses that the hints name become more active, unless they are fixed. In the broad style (see `Style`), `bump_again` makes
+/// some variables more active after that. Later conflicts then count for more.
 pub(crate) fn learn(
     alloc: Global,
     database: &Database,

@@ -1,9 +1,9 @@
 //! Which learned clauses are deleted, and when. The decision level of a variable's value is the number of decisions on the
 //! trail up to and including the variable's entry. The levels of a clause are the different decision levels above 0 at which
 //! its literals got their values. A clause is worth more if it has fewer levels (Audemard and Simon 2009). From time to time a
-//! review deletes the worse half of the learned clauses that may be deleted. No clause that forced a literal of the trail is
-//! deleted. Whatever a review chooses, clauses that forced a literal and clauses that are not alive are left out at the end. So
-//! no contract depends on the counts kept here.
+//! review deletes the worse half of the learned clauses that may be deleted (see `find_candidates`). Whatever a review chooses,
+//! `spare_reasons` and `take_chosen` then leave out the reasons of entries, the clauses of the list, and the clauses that are
+//! no longer alive. So no contract depends on the counts kept here.
 ghost use Rattle.std.specs.Prelude.{◌≡◌, ℕ, List, ◌<◌, false, length, IfOk, Some, slice_index_or};
 ghost use Rattle.dd_clause.specs.declared.clause.Literal.{Literal};
 ghost use Rattle.dd_solver.specs.searching.Deleting.{AreChosen, MayDelete};
@@ -18,10 +18,10 @@ const FIRST_REVIEW: usize = 4000;
 /// The gap at the start. The gap is the number of clauses that are learned between one review and the next.
 const FIRST_GAP: usize = 2000;
 
-/// How much each review adds to the gap, before the gap determines when the next review is due.
+/// Each review adds this to the gap, and the next review is due after the longer gap.
 const GAP_GROWTH: usize = 300;
 
-/// A clause with at most this many levels is never deleted.
+/// A clause is never deleted if some count of its levels gave at most this many.
 const KEPT_LEVELS: u32 = 2;
 
 /// A clause with at most this many literals is never deleted.
@@ -53,7 +53,7 @@ pub(crate) struct Deletion {
     gap: usize,
 }
 
-/// Sets `chosen` to false for each clause that forced an entry of the trail. `chosen[k]` belongs to the clause with the number k.
+/// Sets `chosen` to false for the reason of each entry of the trail. `chosen[k]` belongs to the clause with the number k.
 fn spare_reasons(entries: &[Entry], chosen: &mut [bool])
     ensures { AreChosen entries.now chosen.new }
 {
@@ -67,8 +67,8 @@ fn spare_reasons(entries: &[Entry], chosen: &mut [bool])
     }
 }
 
-/// The numbers of the chosen learned clauses that are alive. The learned clauses have the numbers above `clauses`, the number of
-/// clauses in the list.
+/// The numbers of the chosen learned clauses that are alive. The learned clauses have the numbers above `clauses`, the number
+/// of clauses in the list.
 fn take_chosen(
     alloc: Global,
     database: &Database,

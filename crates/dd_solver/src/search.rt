@@ -1,9 +1,11 @@
-//! The search (Marques-Silva and Sakallah 1999, Eén and Sörensson 2003). It first propagates: it makes forced literals true. At
-//! a conflict, it learns a clause, and goes back to where this clause forces a literal; this is a backjump. If there is no
-//! conflict, it decides a variable, that is, it chooses a value for the variable. Each learned clause becomes a step. Once a
-//! learned clause is empty, the steps are a refutation. The search ends, because the trail, read as a number in base 3, rises
-//! with each propagation, decision and backjump, and is bounded. In the contracts, `left` is the distance of this number from
-//! its bound.
+//! The search (Marques-Silva and Sakallah 1999, Eén and Sörensson 2003). It goes in rounds. Each round begins with propagation:
+//! forced literals are made true. If this leads to a conflict, the search learns a clause. If the clause is empty, the steps
+//! are a refutation. If not, a backjump follows. If there is no conflict, the search decides a variable, that is, it chooses a
+//! value for the variable. If each variable has a value already, these values satisfy the clauses.
+//!
+//! The search ends, because the trail can be read as a number in base 3 that has an upper bound. The number rises whenever a
+//! literal is made true by propagation or by a decision, and at each backjump. In the contracts, `left` is the distance of this
+//! number from its bound.
 ghost use Rattle.std.specs.Prelude.{◌≡◌, ℕ, ◌+◌, ◌<◌, ◌≤◌, ◌^◌, ◌++◌, ◌∷◌, [], true, false, List, length, All, IfOk, OnOk, OnErr, MatchOption, IsTrue, ◌↔◌};
 ghost use Rattle.dd_clause.specs.declared.clause.Literal.{Literal};
 ghost use Rattle.dd_clause.specs.Clauses.{IsClauseInRange, Satisfies};
@@ -51,7 +53,7 @@ impl<'a> Model for Search<'a> {
     ghost invariant = { λ s. IsSearch (record { variables = s.trail.variables; clauses = s.clauses.now; steps = s.steps.items; entries = s.trail.entries }) × (length s.marked.items ≡ s.trail.variables) × (s.trail.variables < 2 ^ 32) × AreAlive s.clauses.now s.steps.items s.alive.items };
 }
 
-/// Adds a step. Its clause is then alive, and the clauses that it deletes no longer are.
+/// Adds a step. Its clause is then alive, and the clauses that it deletes no longer are. If memory runs out, nothing changes.
 fn push_step(steps: &mut Vec<Step>, alive: &mut Vec<bool>, step: Step) -> Result<(), AllocError>
     ensures steps { OnOk result (steps.new.items ≡ steps.old.items ++ step ∷ []) }
     ensures alive { OnOk result ((cs : List (List Literal)) → known_of cs alive.new.items ≡ known_after (known_of cs (alive.old.items ++ true ∷ [])) step.deletes) }
@@ -70,7 +72,7 @@ fn push_step(steps: &mut Vec<Step>, alive: &mut Vec<bool>, step: Step) -> Result
 }
 
 impl<'a> Search<'a> {
-    /// The state before the first decision: no variable has a value, and no clause has been learned.
+    /// The state at the start: no variable has a value, and no clause has been learned.
     pub(crate) fn new(
         alloc: Global,
         clauses: &'a [Clause],
@@ -101,8 +103,9 @@ impl<'a> Search<'a> {
         })
     }
 
-    /// Makes forced literals true, until some clause is falsified or no clause forces a literal. Returns the number of a
-    /// falsified clause, or `None` if there is none.
+    /// Makes forced literals true, until it finds a falsified clause, or finds no clause that forces a literal. Returns the
+    /// number of the falsified clause, or `None`. While some variable has no value, the contract allows the call to miss
+    /// clauses. Once each variable has one, `None` means that no clause is falsified.
     fn propagate(&mut self) -> Result<Option<u64>, AllocError>
         ensures same { (self.new.variables ≡ self.old.variables) × (self.new.clauses ≡ self.old.clauses) × (self.new.steps ≡ self.old.steps) }
         ensures conflict { IfOk result (λ conflict. MatchOption conflict (IsFull self.new.variables self.new.entries → AreOpen self.new) (IsFalsified self.new)) }
@@ -182,8 +185,8 @@ impl<'a> Search<'a> {
         Ok(learned.backjump)
     }
 
-    /// Removes the decision at the backjump's place and all entries after it. The last step's clause then forces a literal, which is
-    /// made true.
+    /// Removes the decision at the backjump's place and all entries after it. The last step's clause then forces the backjump's
+    /// literal, which is made true.
     fn backtrack(&mut self, backjump: Backjump) -> Result<(), AllocError>
         requires { IsForced self.old backjump }
         ensures same { (self.new.variables ≡ self.old.variables) × (self.new.clauses ≡ self.old.clauses) × (self.new.steps ≡ self.old.steps) }
@@ -247,7 +250,8 @@ impl<'a> Search<'a> {
     }
 }
 
-/// Finds an assignment that satisfies the clauses, or steps that refute them.
+/// Finds an assignment that satisfies the clauses, or steps that refute them. The assignment has a value for each variable of
+/// the list. Fails only if memory runs out.
 pub fn solve(alloc: Global, cnf: &Cnf) -> Result<Outcome, AllocError>
     ensures answer { IfOk result (IsAnswer cnf.now.variables cnf.now.clauses) }
     ensures found { IfOk result (λ outcome. IsFound outcome ↔ IsSatisfiable cnf.now.clauses) }
@@ -256,8 +260,8 @@ pub fn solve(alloc: Global, cnf: &Cnf) -> Result<Outcome, AllocError>
     solve_with(alloc, cnf, Style::Broad)
 }
 
-/// Like `solve`, which searches in the broad style, but with a given style. The style affects how long the search takes, and
-/// which assignment or which steps it finds.
+/// Like `solve`, but in the given style (see `Style`). `solve` searches in the broad style. The style affects how long the
+/// search takes, and which assignment or which steps it finds.
 pub fn solve_with(alloc: Global, cnf: &Cnf, style: Style) -> Result<Outcome, AllocError>
     ensures answer { IfOk result (IsAnswer cnf.now.variables cnf.now.clauses) }
     ensures found { IfOk result (λ outcome. IsFound outcome ↔ IsSatisfiable cnf.now.clauses) }

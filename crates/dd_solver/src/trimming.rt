@@ -12,7 +12,8 @@ use dd_derivation::Step;
 use dd_values::Items;
 use std::alloc::{AllocError, Global};
 
-/// The index, from 0, of the step with this number. `None` if the number is at most `clauses`, the number of clauses in the list.
+/// The index, from 0, of the step with this number. `None` if the number is at most `clauses`, the number of clauses in the
+/// list.
 fn find_place(number: u64, clauses: usize) -> Option<usize>
     ensures { MatchOption result (number ≤ clauses) (λ place. number ≡ clauses + place + 1) }
 {
@@ -38,7 +39,7 @@ fn mark_hints(marked: &mut [bool], clauses: usize, before: usize, hints: &[u64])
     }
 }
 
-/// Marks each step that a marked step needs, directly or through others.
+/// Marks each step that a marked step uses, directly or through others.
 fn mark_needed(marked: &mut [bool], clauses: usize, steps: &[Step])
     requires { IsMarking clauses (length steps.now) steps.now marked.old }
     ensures { IsMarking clauses 0 steps.now marked.new }
@@ -50,7 +51,7 @@ fn mark_needed(marked: &mut [bool], clauses: usize, steps: &[Step])
     }
 }
 
-/// Marks the last step, and those that it needs.
+/// Marks the last step, and those that it uses, directly or through others.
 fn mark_used(alloc: Global, clauses: usize, steps: &[Step]) -> Result<Vec<bool>, AllocError>
     ensures { IfOk result (λ marked. IsMarking clauses 0 steps.now marked.items) }
 {
@@ -80,7 +81,8 @@ fn find_numbers(alloc: Global, clauses: usize, marked: &[bool]) -> Result<Vec<u6
     Ok(numbers)
 }
 
-/// The new number of the clause that has this number. A clause of the list keeps its number.
+/// The new number of the clause that has this number. A clause of the list keeps its number. A number that no clause has stays
+/// the same.
 fn new_number(clauses: usize, numbers: &[u64], number: u64) -> u64
     ensures { result ≡ renamed clauses numbers.now number }
 {
@@ -133,8 +135,9 @@ fn keep_marked(
     Ok(kept)
 }
 
-/// From steps that refute the clauses, keeps the last one and those that it uses, directly or through others. The steps that are
-/// kept refute the clauses too, and delete nothing.
+/// From steps that refute the clauses, keeps the last one and those that it uses, directly or through others. The steps that
+/// are kept refute the clauses too, and delete nothing. They get new numbers, which their hints use. Fails only if memory runs
+/// out.
 pub fn trimmed(alloc: Global, cnf: &Cnf, steps: Items<Step>) -> Result<Items<Step>, AllocError>
     requires { refutes cnf.now.variables cnf.now.clauses steps ≡ true }
     ensures refutes { IfOk result (λ fewer. refutes cnf.now.variables cnf.now.clauses fewer ≡ true) }

@@ -1,6 +1,7 @@
-//! Laws about the bytes of scripts. Bytes spell a script if they are a text of the grammar, the text has no fault, and the
-//! script is what the text means. Bytes spell exactly one script, or else are refused in exactly one way. The laws hold for any
-//! number of bytes. The limit on a script's length is not part of the grammar. A run tests this limit before it reads commands.
+//! Laws about the bytes of scripts. Bytes spell a script if they are a text of the grammar, the text has no fault (such as an
+//! unknown name), and the script is what the text means. Bytes spell exactly one script, or else are refused in exactly one
+//! way: with the number of a command and a kind of fault. An error of syntax is such a kind. The laws hold for any number of
+//! bytes. The limit on a script's length is not part of the grammar. A run tests this limit before it reads commands.
 #![tactic(auto)]
 
 mod laws;

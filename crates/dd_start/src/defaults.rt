@@ -20,7 +20,7 @@ const PERIOD_AT_START: u32 = 4;
 const PIVOTS_AT_START: u32 = 10_000;
 
 /// The defaults: the square topology with the node 0, the symbols 0 and 1, which weigh 0 and 1, and search limits of radius 4,
-/// period 4 and 10,000 pivots. The node allows both symbols.
+/// period 4 and 10,000 pivots. The node allows both symbols. Returns `AllocError` if memory runs out.
 pub fn start(alloc: Global) -> Result<Known, AllocError>
     ensures known { IfOk result (λ known. known ≡ known_start) }
     ensures sound { OnOk result (IsSound known_start) }
@@ -53,14 +53,15 @@ pub fn start(alloc: Global) -> Result<Known, AllocError>
     })
 }
 
-/// The numbers below `count`, from 0 on, in order.
+/// The numbers below `count`, from 0 on, in order. Returns `AllocError` if memory runs out.
 pub fn numbers_below(alloc: Global, count: u32) -> Result<Vec<u32>, AllocError>
     ensures { IfOk result (λ numbers. numbers.items ≡ range_with_len 0 count) }
 {
     (0..count).collect(alloc)
 }
 
-/// Lets each node allow each symbol, as it does at first. After this call no node is restricted.
+/// Lets each node allow each symbol, as it does at first. Then no node is restricted. There must be at least one node and one
+/// symbol. Returns `AllocError` if memory runs out.
 pub fn allow_all(alloc: Global, known: &mut Known) -> Result<(), AllocError>
     requires nodes { 1 ≤ length known.old.setting.nodes }
     requires symbols { 1 ≤ length known.old.setting.symbols }

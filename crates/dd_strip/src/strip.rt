@@ -3,8 +3,8 @@ ghost use Rattle.std.specs.Prelude.{◌≡◌, ◌≤◌};
 ghost use Rattle.dd_strip.specs.Strips.{IsSized, cells, positions};
 
 /// A strip: the cells whose `y` is at least 0 and less than the period along y, and whose `z` is at least 0 and less than the
-/// period along z. It has no end along x. A slice consists of the strip's cells with one value of `x`. The cells at one
-/// position are called its nodes. The methods need periods from 1 to 64, and 1 to 4 nodes at each position.
+/// period along z. It has no end along x. A slice consists of the strip's cells with one value of `x`. Each position has one
+/// cell for each node. The methods need periods from 1 to 64, and from 1 to 4 nodes.
 #[derive(Debug, Clone, Copy)]
 pub struct Strip {
     /// The period along y.

@@ -124,7 +124,7 @@ module _ (r : LocalRule) (s : Strip) (rule : IsRule r) (for : IsFor r s) (edges 
   pub strip_empty_law : (ranks : List ℕ) → IsEmptyCertificate r s ranks → StripEmpty r s (greatest ranks + state_length r)
   strip_empty_law ranks falls = record { short = fillings_short ranks falls; nowhere = nowhere ranks falls }
 
-  -- the closed walk of the certificate gives a configuration with the walk's mean
+  -- the closed walk of the certificate gives a configuration whose density is the walk's mean divided by the number of positions in a slice
   module _ (numbers : AreDigits r.symbols) (ws : List ℕ) (p q : ℕ) (walk : List ℕ) (ps : List ℤ) (c : IsDensityCertificate r s ws p q walk ps) where
     cycle_edges : AreEdgesOf r s (tile_look (tile_of r s walk))
     cycle_edges = edges (tile_look (tile_of r s walk)) (tile_repeats r s (tile_of r s walk) for (on_strip r s walk rule for numbers c.closed))

@@ -55,7 +55,7 @@ module _ (r : LocalRule) (s : Strip) where
             (subst (λ (u : ℕ). IsJoined r s u (slice_index walk 0)) (sym here) (first_edge closed.last closed.last walk closed.closed closed.some))
       ]
 
-  -- what is known about an edge from u to v, whose slice is the last slice of v
+  -- there is an edge from u to v whose slice is the last slice of v
   pub record Follows (u v : ℕ) : Type 0 where
     pub state : u < states r (positions s)
     pub slice : last_slice r s v < slices r (positions s)

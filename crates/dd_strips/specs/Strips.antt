@@ -43,11 +43,11 @@ pub record LivesOnStrip (r : LocalRule) (s : Strip) (t : Tile) : Type 0 where
 abbrev pub LivesNowhere : LocalRule → Strip → Type 0
 LivesNowhere r s = (t : Tile) → LivesOnStrip r s t → ⊥
 
--- the weight of a configuration's fundamental box
+-- the weight of a configuration's fundamental box, which spans one period along each axis
 abbrev pub tile_weight : List ℕ → Tile → ℕ
 tile_weight ws t = total_weight ws t.symbols
 
--- some configuration that lives on the strip has the density p / q, and none has a lower density. The density is the weight per position
+-- some configuration that lives on the strip has the density p / q, and none has a lower density; a density is a weight per position
 pub record IsLeastDensity (r : LocalRule) (s : Strip) (ws : List ℕ) (p q : ℕ) : Type 0 where
   pub positive : 0 < q
   pub some : Tile

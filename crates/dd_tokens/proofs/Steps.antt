@@ -4,13 +4,13 @@ use Rattle.dd_tokens.specs.{declared.piece.Piece.Piece, declared.piece.Piece.The
 use Rattle.dd_tokens.specs.{declared.token.TokenKind.TokenKind, declared.token.Token.Token}
 use Rattle.dd_tokens.specs.Format.{tokens_after, first, with_piece, piece_size, with_front, IsPieceWithin}
 
--- the bytes that belong to a piece are skipped
+-- skipping n bytes of a piece is the same as dropping them and adding n to the position
 pub over : (n position : ℕ) (bytes : List ℕ) → n ≤ length bytes → tokens_after n position bytes ≡ tokens_after 0 (position + n) (drop n bytes)
 over zero position bytes le = ap (λ p. tokens_after 0 p bytes) (omega arith)
 over (suc n) position [] le = absurd (omega arith)
 over (suc n) position (b ∷ bytes) le = over n (position + 1) bytes (omega arith) ∙ ap (λ p. tokens_after 0 p (drop n bytes)) (omega arith)
 
--- the tokens from a position on are determined by the piece there and the tokens after that piece
+-- if a blank, a comment or a token is at a position, it and the tokens after it determine the tokens from this position on
 pub next : (piece : Piece) (position : ℕ) (bytes : List ℕ) → piece ≡ first bytes → 0 < piece_size piece → piece_size piece ≤ length bytes
     → tokens_after 0 position bytes ≡ with_piece piece position (tokens_after 0 (position + piece_size piece) (drop (piece_size piece) bytes))
 next piece position [] is some within = absurd (omega (arith, some, within))
@@ -19,7 +19,7 @@ next piece position (b ∷ bytes) is some within =
     rw (← is) (ap (with_piece piece position)
     (ap (λ (k : ℕ). tokens_after k position (b ∷ bytes)) (sym n) ∙ over (piece_size piece) position (b ∷ bytes) within))
 
--- a token that is cut off moves from the front of what is left to the end of the list
+-- when a token is cut off the bytes and added to the list, the list followed by the tokens of the bytes left stays the same
 pub cut_off : (kind : TokenKind) (n position : ℕ) (bytes rest : List ℕ) (list new : List Token) → Cut kind n ≡ first bytes → IsPieceWithin (Cut kind n) (length bytes) → rest ≡ drop n bytes
     → new ≡ list ++ record { kind = kind; start = position; length = n } ∷ []
     → with_front new (tokens_after 0 (position + n) rest) ≡ with_front list (tokens_after 0 position bytes)

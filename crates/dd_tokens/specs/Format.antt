@@ -69,7 +69,7 @@ front b bytes =
     else (if b == 45 && starts_positive bytes then Cut Negative (1 + prefix_len is_digit bytes)
     else Fault 0)))))))
 
--- the piece at the front of the bytes
+-- the piece at the front of the bytes; the value for [] is never used
 abbrev pub first : List ℕ → Piece
 first [] = Fault 0
 first (b ∷ bytes) = front b bytes
@@ -88,7 +88,7 @@ IsPieceWithin (Gap n) room = (0 < n) × (n ≤ room)
 IsPieceWithin (Cut kind n) room = (0 < n) × (n ≤ room)
 IsPieceWithin (Fault n) room = n < room
 
--- the tokens in `list`, followed by those in `others`
+-- the tokens in `list`, followed by those in `others`, with the stop of `others`
 abbrev pub with_front : List Token → Tokens → Tokens
 with_front list others = record { list = list ++ others.list; stop = others.stop }
 

@@ -70,7 +70,7 @@ into_starts c e d h =
     into_cond (e.to == c.node) (start_of c e) d (eq-eqb e.to c.node (sym (ap (λ x. x.node) h.1)))
     (sym (ap (λ x. start_of x e) h.1 ∙ (ap (λ p. cell p e.from) (forth_and_back d.position e.offset) ∙ ap (cell d.position) (sym h.0))))
 
--- the neighbours of a cell are the cells adjacent to it
+-- two lemmas: the list of the neighbours of c has exactly the cells adjacent to c
 pub from_neighbours : (es : List Edge) (c d : Cell) → Contains (neighbours es c) d → IsAdjacent es c d
 from_neighbours es c d h =
     let at = in_flat_map (beside c) es d h in
@@ -88,7 +88,7 @@ into_neighbours es c d h =
       | inr to ↦ Contains-append_right (edge_ends c h.0) (edge_starts c h.0) d (into_starts c h.0 d to)
     ])
 
--- the list of a ball has exactly the cells of the ball
+-- two lemmas: the list of a ball has exactly the cells of the ball
 pub in_ball : (es : List Edge) (c : Cell) (r : ℕ) (d : Cell) → Contains (ball es c r) d → IsInBall es c r d
 in_ball es c zero d h = elim (Contains-cons_cases c [] d h) [ inl same ↦ sym same | inr none ↦ absurd (Contains-nil d none) ]
 in_ball es c (suc r) d h =

@@ -18,7 +18,8 @@ use Rattle.dd_topology.specs.{keeping.Growth.AddsCells, lemmas.ListLaws.in_flat_
 use Rattle.dd_topology.specs.lemmas.OrderLaws.{kept-insert_key, has-insert_key, from-insert_key, is-in_order}
 use Rattle.dd_topology.proofs.BallLaws.{from_neighbours, into_neighbours, in_ball, ball_holds}
 
--- the cells found are those of the ball of radius r; if a found cell isn't in the frontier, all its neighbours have been found too
+-- The cells found are those of the ball of radius r around c. They are in range, and the frontier has only such cells. If a found cell isn't in the
+-- frontier, all its neighbours have been found too.
 pub record IsGrown (es : List Edge) (c : Cell) (r : ℕ) (found frontier : List Cell) : Type 0 where
   pub members : (d : Cell) → Contains found d ↔ IsInBall es c r d
   pub in_range : All (λ d. IsInRange d.position) found
@@ -28,7 +29,7 @@ pub record IsGrown (es : List Edge) (c : Cell) (r : ℕ) (found frontier : List 
 only_one : (c d : Cell) → Contains (c ∷ []) d → d ≡ c
 only_one c d h = elim (Contains-cons_cases c [] d h) [ inl same ↦ sym same | inr none ↦ absurd (Contains-nil d none) ]
 
--- before the first round, only the centre has been found
+-- before the first round, only the centre has been found, and it is the frontier
 pub grown_start : (es : List Edge) (c : Cell) → IsInRange c.position → IsGrown es c 0 (c ∷ []) (c ∷ [])
 grown_start es c near = record {
   members = λ d. (only_one c d, λ h. subst (Contains (c ∷ [])) (sym h) (Contains-first c []));
@@ -45,7 +46,7 @@ some_fails {X} p (x ∷ xs) h = by_head (p x) refl h (some_fails p xs)
     by_head true e is rest = let other = rest is in (other.0, Contains-append_right (x ∷ []) xs other.0 other.1, other.2)
     by_head false e is rest = (x, Contains-first x xs, e)
 
--- one round: the neighbours of the frontier are added, and the fresh cells are the next frontier
+-- one round leads from radius r to r + 1: the neighbours of the frontier, all in range, are added, and the fresh cells are the next frontier
 pub grown_more : (es : List Edge) (c : Cell) (r : ℕ) (found frontier now fresh : List Cell) → IsGrown es c r found frontier → are_in_range (flat_map (neighbours es) frontier) ≡ true →
     AddsCells found (flat_map (neighbours es) frontier) now fresh → IsGrown es c (r + 1) now fresh
 grown_more es c r found frontier now fresh grown near adds = rw add-one (record {
@@ -94,7 +95,7 @@ centre : (es : List Edge) (c : Cell) (r : ℕ) → IsInBall es c r c
 centre es c zero = refl
 centre es c (suc r) = inl (centre es c r)
 
--- with an empty frontier, no later round adds a cell
+-- if the frontier is empty, each ball around c has only cells that have been found
 stays : (es : List Edge) (c : Cell) (r : ℕ) (found : List Cell) → IsGrown es c r found [] → (k : ℕ) (d : Cell) → IsInBall es c k d → Contains found d
 stays es c r found grown zero d h = subst (Contains found) (sym h) ((grown.members c).1 (centre es c r))
 stays es c r found grown (suc k) d (inl near) = stays es c r found grown k d near
@@ -129,7 +130,8 @@ finished es c r found frontier cells grown same ascending = record {
   members = λ d. subst (λ l. Contains l d ↔ IsInBall es c r d) (sym same) (grown.members d);
 }
 
--- if there was memory for the list of the cells found, it is the list of the ball
+-- two lemmas: if the result is `Ok` with the cells found, in cell order, these are exactly the cells of the ball, and equal `in_order` of the list
+-- `ball`
 module _ {V E : Type 0} (result : Result V E) (items : V → List Cell) (es : List Edge) (c : Cell) (r : ℕ) (found frontier : List Cell) where
   pub cells_at_last : IsGrown es c r found frontier → IfOk result (λ v. items v ≡ found) → IfOk result (λ v. IsStrictlySortedBy cell_cmp (items v)) → IfOk result (λ v. IsCellListOf (IsInBall es c r) (items v))
   cells_at_last grown same ascending = if_ok_both result _ _ _ (λ v. finished es c r found frontier (items v) grown) same ascending
@@ -197,7 +199,7 @@ adds_known before cells now fresh i x below is adds there = rw (take_more cells 
           | inr last ↦ subst (Contains now) (sym (only_one x d last)) there
         ]
 
--- if the end or the start of an edge is out of range, so is some cell that the edge joins to c
+-- two lemmas: if `edge_ends` or `edge_starts` has a cell out of range, so has `beside`, the list of the cells that the edge joins to c
 pub end_out_of_range : (c : Cell) (e : Edge) → are_in_range (edge_ends c e) ≡ false → are_in_range (beside c e) ≡ false
 end_out_of_range c e far = list_all-append (λ d. is_in_range d.position) (edge_ends c e) (edge_starts c e) ∙ and_left _ _ far
 
@@ -211,7 +213,8 @@ part_out_of_range f xs i x below is far =
     let there : Contains (flat_map f xs) d.0 = into_flat_map f xs x d.0 (i, below, sym is) d.1 in
     false_from_ne_true (are_in_range (flat_map f xs)) (λ near. true≢false (sym (passes (λ c. is_in_range c.position) (flat_map f xs) d.0 near there) ∙ d.2))
 
--- n, the node at one end of an edge, is equal to m, the node of a cell. The cell `other` at the edge's other end is in range, and is `given`
+-- n, the node at one end of an edge, is equal to m, the node of a cell. `other` is the cell at the edge's other end. It is in range and equal to
+-- `given`.
 module _ (n m : ℕ) (other given : Cell) (same : n ≡ m) (near : Some given ≡ in_range other) where
   given_is : (given ≡ other) × (is_in_range other.position ≡ true)
   given_is = by_test (is_in_range other.position) near

@@ -49,7 +49,8 @@ one_edge es single e f (i, below, is) (j, below', is') label from =
 follows : (es : List Edge) (c : Cell) (label : ℕ) (to : Cell) → (move : IsMove es c label to) → leaves c label move.0 ≡ true
 follows es c label to move = and_from _ _ (eq-eqb _ label move.2) (eq-eqb _ c.node (sym move.3.0))
 
--- if an edge with the label is found and its end is in range, a move by the label leads from c to that end; otherwise it leads to no cell in range
+-- If an edge is found that has the label and leaves c's node, and its end is in range, a move by the label leads from c to that end. Otherwise no
+-- move by the label leads from c to a cell in range.
 pub move_exact : (es : List Edge) (c : Cell) (label : ℕ) → AreSingle es → (r : Option Edge) → find (leaves c label) es ≡ r →
     MatchOption (option_and_then in_range (option_map (end_of c) r)) ((to : Cell) → IsMove es c label to → ¬ IsInRange to.position) (IsMove es c label)
 move_exact es c label single None h = λ to move near. true≢false (sym (follows es c label to move) ∙ missed (leaves c label) es move.0 h move.1)
@@ -73,7 +74,7 @@ same_move m n = m.label == n.label && m.from == n.from
 flip : (a b : ℕ) → (a == b) ≡ (b == a)
 flip a b = grind (arith, nat_tests)
 
--- an edge is found at the index of its move
+-- the edge that has the label and leaves c's node is found at the index of its move
 pub found_by_move : (es : List Edge) (moves : List Move) → moves ≡ map move_of es → (c : Cell) (label : ℕ) (r : Option ℕ) →
     r ≡ position (same_move (record { label = label; from = c.node })) moves → option_and_then (slice_get es) r ≡ find (leaves c label) es
 found_by_move es moves is c label r at =

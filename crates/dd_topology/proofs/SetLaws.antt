@@ -97,7 +97,7 @@ row_is_row m (s ∷ symbols) all h =
       some = passes_any (λ b. b) row (get_or row s false) (Contains-get_or row s false (omega arith)) here;
     }
 
--- restricting one node keeps `IsSets` true
+-- restricting one node to some symbols of the alphabet, at least one, keeps `IsSets` true
 pub restricted_are_sets : (n : ℕ) (s : SymbolSets) (a : ℕ) (symbols : List ℕ) → IsSets n s → All (λ t. t < s.symbols) symbols → 1 ≤ length symbols →
     IsSets n (restricted s a symbols)
 restricted_are_sets n s a symbols ok all some = record {
@@ -116,7 +116,7 @@ listed_rows row m symbols long each =
     same_lists row (symbol_row m symbols) (long ∙ sym (length-map-range_with_len (is_listed symbols) 0 m)) (λ t d h.
     get_or_default row t d false h ∙ (each t h ∙ sym (get_or-row_of m symbols t d (omega arith))))
 
--- one row of the flat list was overwritten in place
+-- row a of the flat list `xs` was overwritten in place with `row`, the row of the listed symbols
 module _ (n m a k len : ℕ) (xs now row : List Bool) (symbols : List ℕ) (below : a < n) (long : length xs ≡ n * m) (full : length xs ≡ len) (same : now ≡ xs) (size : k ≡ m)
     (is : row ≡ symbol_row (length (take k (drop (a * m) now))) symbols) where
   abbrev over : List Bool

@@ -1,4 +1,4 @@
--- Lists without repeats.
+-- Lists without repeats: by the test `same`, no element is the same as a later one.
 use Rattle.std.proofs.Common.{◌≡◌, ◌<◌, ℕ, List, [], ◌∷◌, Bool, true, false, ◌||◌, length, take, get_or, Contains, refl, ap, sym, ◌∙◌, arith, true≢false}
 use Rattle.std.proofs.lemmas.{Bool.false_from_ne_true, List.get_or-take, List.length-take, List.Kept.AllPairs-cons}
 use Rattle.std.proofs.lemmas.{Option.slice_get_within, Option.get_or_from_slice_get, Slice.Eq.bytes_eq-Decides}
@@ -26,7 +26,7 @@ module _ {X : Type 0} (same : X → X → Bool) where
       (All-from_contains (λ y. same x y ≡ false) xs (λ y there. false_from_ne_true (same x y) (λ e. true≢false (sym (passes_any (same x) xs y there e) ∙ none))))
       (pairs_apart xs (neither_right (list_any (same x) xs) (has_repeat same xs) h))
 
-  -- an element is not the same as one before it
+  -- in a list in which no two elements are the same, the element at index i is not the same as one before it
   pub not_among : (xs : List X) → AllPairs (λ x y. same x y ≡ false) xs → (i : ℕ) (y : X) → i < length xs → Contains (take i xs) y → same y (get_or xs i y) ≡ false
   not_among xs pairs i y below (k, within, is) =
       let before : k < i = omega (arith, within, length-take i xs) in

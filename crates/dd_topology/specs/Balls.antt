@@ -33,7 +33,7 @@ CellsLeaveRange S = LeavesRangeAt (λ (c : Cell). c.position) S
 abbrev pub IsCellFaultOf : CellSet → LatticeFault → Type 0
 IsCellFaultOf S = IsFaultAt (λ (c : Cell). c.position) S
 
--- these are tests: `same_place` compares two positions, `leads` decides `Leads`, and `is_adjacent` decides `IsAdjacent`
+-- three tests: `same_place` compares two positions, `leads` decides `Leads`, and `is_adjacent` decides `IsAdjacent`
 abbrev pub same_place : Place → Place → Bool
 same_place p q = int_eq p.x q.x && int_eq p.y q.y && int_eq p.z q.z
 
@@ -43,11 +43,11 @@ leads e a b = e.from == a.node && e.to == b.node && same_place (moved a.position
 abbrev pub is_adjacent : List Edge → Cell → Cell → Bool
 is_adjacent es a b = list_any (λ e. leads e a b || leads e b a) es
 
--- the cell to which the edge leads from c, if c belongs to its first node
+-- the cell to which the edge leads from c, if c belongs to the edge's first node; otherwise no cell
 abbrev pub edge_ends : Cell → Edge → List Cell
 edge_ends c e = cond (e.from == c.node) (end_of c e ∷ []) []
 
--- the cell from which the edge leads to c, if c belongs to its second node
+-- the cell from which the edge leads to c, if c belongs to the edge's second node; otherwise no cell
 abbrev pub edge_starts : Cell → Edge → List Cell
 edge_starts c e = cond (e.to == c.node) (start_of c e ∷ []) []
 

@@ -6,7 +6,7 @@ use Rattle.dd_topology.specs.declared.{edge.Edge.Edge, builtin.Kind.Kind}
 use Rattle.dd_topology.specs.declared.builtin.Kind.TheVariants.{Line, Square, King, Triangle, Hex, Cube}
 use Rattle.dd_topology.specs.Grid.{Grid, grid}
 
--- whether some element of the list is the same as a later one
+-- whether, by the test `same`, some element of the list is the same as a later one
 abbrev pub has_repeat : {X : Type 0} → (X → X → Bool) → List X → Bool
 has_repeat same [] = false
 has_repeat same (x ∷ xs) = list_any (same x) xs || has_repeat same xs

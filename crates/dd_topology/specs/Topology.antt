@@ -1,4 +1,4 @@
--- Moves along the edges of a topology, over all of Z^3.
+-- Moves along the edges of a topology, for all cells of Z^3, in range or not.
 use Rattle.std.specs.Prelude.{◌≡◌, ℕ, ◌==◌, ◌&&◌, Bool, false, max, nat_le, unsigned_abs, pos, ◌-ℤ◌, List, Option, Some, None, if◌then◌else◌, Contains, AllPairs}
 use Rattle.std.specs.{List.find, List.list_all, Option.option_map}
 use Rattle.dd_lattice.specs.{Place.Place, Place.place, Place.moved, Place.is_in_range, Cells.cell, declared.position.Cell.Cell}
@@ -8,11 +8,11 @@ use Rattle.dd_topology.specs.declared.edge.Edge.{Edge}
 abbrev pub reversed : Place → Place
 reversed p = place (pos 0 -ℤ p.x) (pos 0 -ℤ p.y) (pos 0 -ℤ p.z)
 
--- the cell to which the edge leads from c, a cell of its first node
+-- the cell to which the edge leads from c, a cell of the edge's first node
 abbrev pub end_of : Cell → Edge → Cell
 end_of c e = cell (moved c.position e.offset) e.to
 
--- the cell from which the edge leads to c, a cell of its second node
+-- the cell from which the edge leads to c, a cell of the edge's second node
 abbrev pub start_of : Cell → Edge → Cell
 start_of c e = cell (moved c.position (reversed e.offset)) e.from
 

@@ -1,5 +1,6 @@
-//! Adjacent cells, and balls. A ball is found by a breadth-first search: each round adds the neighbours of the frontier,
-//! which is the list of the cells that were new in the round before.
+//! Adjacent cells, and balls. A ball is found by a breadth-first search: each round adds the neighbours of the frontier. In
+//! the first round the frontier is the centre alone. After that, it is the list of the cells that were new in the round
+//! before. The search fails with `Range` if it reaches a cell out of range.
 ghost use Rattle.std.specs.Prelude.{◌≡◌, ◌↔◌, ◌++◌, [], true, false, IsTrue, IfOk, IfErr, OnOk};
 ghost use Rattle.std.specs.List.{flat_map};
 ghost use Rattle.std.specs.List.Sorted.{IsStrictlySortedBy};

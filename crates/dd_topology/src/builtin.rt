@@ -20,7 +20,7 @@ pub enum Kind {
     Line,
     /// The square grid: each cell has four neighbours.
     Square,
-    /// The square grid with its diagonals, the moves of a chess king: eight neighbours.
+    /// The square grid and its diagonals: eight neighbours, those to which a chess king can move.
     King,
     /// The triangular grid: six neighbours.
     Triangle,

@@ -17,7 +17,8 @@ pub struct Edge {
     pub to: u32,
 }
 
-/// The cell to which the edge leads from `cell`, a cell of its first node. `None` if the cell at the end is out of range.
+/// The cell to which the edge leads from `cell`, a cell of the edge's first node. `None` if the cell at the end is out of
+/// range.
 pub(crate) fn end_of(cell: &Cell, edge: &Edge) -> Option<Cell>
     ensures { result ≡ in_range (end_of cell.now edge.now) }
 {
@@ -28,8 +29,8 @@ pub(crate) fn end_of(cell: &Cell, edge: &Edge) -> Option<Cell>
     })
 }
 
-/// The cell from which the edge leads to `cell`, a cell of its second node. `None` if the cell at the start is out of
-/// range.
+/// The cell from which the edge leads to `cell`, a cell of the edge's second node. `None` if the cell at the start is out
+/// of range.
 pub(crate) fn start_of(cell: &Cell, edge: &Edge) -> Option<Cell>
     ensures { result ≡ in_range (start_of cell.now edge.now) }
 {

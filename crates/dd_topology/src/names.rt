@@ -45,7 +45,7 @@ impl Names {
         }
     }
 
-    /// Adds a name and returns its number.
+    /// Adds a name and returns its number. Before the call, the list must have fewer than 2^32 - 1 names.
     ///
     /// # Errors
     /// `Twice` if the name was added before; otherwise `Memory`, if memory ran out. The fault holds the name, and the list

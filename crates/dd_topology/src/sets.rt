@@ -42,7 +42,8 @@ fn allow_listed(row: &mut [bool], symbols: &[u32])
 }
 
 impl Sets {
-    /// The sets in which every node allows every symbol.
+    /// The sets in which each of `nodes` nodes allows each of `symbols` symbols. There must be at least one node and one
+    /// symbol.
     pub fn new(alloc: Global, nodes: u32, symbols: u32) -> Result<Sets, AllocError>
         requires nodes { 1 ≤ nodes }
         requires symbols { 1 ≤ symbols }
@@ -57,7 +58,8 @@ impl Sets {
         })
     }
 
-    /// Makes the node allow exactly these symbols.
+    /// Makes the node allow exactly these symbols. The node and the symbols must exist, and there must be at least one
+    /// symbol.
     pub fn restrict(&mut self, node: u32, symbols: &[u32])
         requires node { node < length self.old.allowed }
         requires symbols { All (λ s. s < self.old.symbols) symbols.now }
@@ -69,7 +71,7 @@ impl Sets {
         allow_listed(&mut self.allowed[start..start + size], symbols);
     }
 
-    /// Whether the node allows the symbol.
+    /// Whether the node allows the symbol. The node must exist. `false` if there is no such symbol.
     pub fn allows(&self, node: u32, symbol: u32) -> bool
         requires { node < length self.now.allowed }
         ensures { result ≡ allows self.now node symbol }

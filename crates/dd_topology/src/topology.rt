@@ -19,7 +19,8 @@ use indexmap::IndexSet;
 use std::alloc::Global;
 use std::marker::Model;
 
-/// A move: a label, and the node from which the move leads. No two edges of a topology make the same move.
+/// A move: a label, and the node from which the move leads. An edge makes the move with its label and its first node. No
+/// two edges of a topology make the same move.
 #[derive(Clone, Copy, PartialEq, Eq, Hash)]
 pub(crate) struct Move {
     label: u32,
@@ -54,7 +55,7 @@ impl Model for Topology {
 }
 
 /// The moves that the edges make, in the same order. The fault is `Twice` if two edges make the same move: it holds the
-/// label of the first edge that makes the same move as an earlier one.
+/// label of the first edge that makes the same move as an earlier one. The fault is `Memory` if memory ran out.
 fn moves_of(alloc: Global, edges: &[Edge]) -> Result<IndexSet<Move>, TopologyFault>
     ensures moves { IfOk result (λ moves. moves.keys ≡ map move_of edges.now) }
     ensures single { OnOk result (AreSingle edges.now) }
@@ -133,9 +134,9 @@ impl Topology {
         self.labels.find(name)
     }
 
-    /// The edges, in the order in which they were given. The contract also says, for all cells of Z^3, that the test
-    /// `is_adjacent` is true exactly where `IsAdjacent` holds, and that the list `ball` has exactly the cells for which
-    /// `IsInBall` holds.
+    /// The edges, in the order in which they were given. The contract also says that no edge leads further than 4 along an
+    /// axis. For all cells of Z^3, it says that the test `is_adjacent` is true exactly when `IsAdjacent` holds, and that
+    /// the list `ball` has exactly the cells for which `IsInBall` holds.
     pub fn edges(&self) -> &[Edge]
         ensures edges { result.now ≡ self.now.edges }
         ensures adjacent { (a : AnyCell) → (b : AnyCell) → (is_adjacent result.now a b ≡ true) ↔ IsAdjacent result.now a b }

@@ -28,7 +28,8 @@ abbrev pub count_valued : List (Option Bool) → ℕ
 count_valued [] = 0
 count_valued (v ∷ values) = one_if_some v + count_valued values
 
--- exactly the trail's literals are true under the values, and their variables are distinct and in range
+-- The values fit the trail: exactly the trail's literals are true under the values, and their variables are distinct and in range. So as many
+-- variables have a value as the trail has entries.
 pub record IsValued (trail : List Entry) (values : List (Option Bool)) : Type 0 where
   pub news : (k : ℕ) (d : Entry) → k < length trail → IsNewTo (length values) (take k trail) (get_or trail k d)
   pub values_ok : (l : Literal) → IsLiteralInRange (length values) l → is_denied values l ≡ is_among (falses trail) l
@@ -111,7 +112,7 @@ at_most (Some x ∷ xs) = omega (arith, at_most xs)
 pub length_within : (trail : List Entry) (values : List (Option Bool)) → IsValued trail values → length trail ≤ length values
 length_within trail values v = omega (arith, v.count_ok, at_most values)
 
--- values that fit a trail without entries still fit it with one more variable that has no value
+-- if values fit a trail without entries, they still do so when one more variable is added, without a value
 pub valued_wider : (values : List (Option Bool)) → IsValued [] values → IsValued [] (values ++ None ∷ [])
 valued_wider values v = record {
   news = λ k d h. absurd (omega arith);
@@ -184,7 +185,7 @@ full_exactly trail values n m ok e f = (
     every [] h = refl
     every (x ∷ xs) h = omega (arith, h 0 (omega arith), every xs (λ k l. h (suc k) (omega arith)))
 
--- the values that a trail gives the variables
+-- if the variables of a trail are distinct and in range, there are values that fit it
 pub valued_of : (n : ℕ) (trail : List Entry) → ((k : ℕ) (d : Entry) → k < length trail → IsNewTo n (take k trail) (get_or trail k d)) → (values : List (Option Bool)) × (length values ≡ n) × IsValued trail values
 valued_of n trail news =
     let w = go (length trail) (omega arith) in

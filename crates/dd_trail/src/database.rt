@@ -28,8 +28,9 @@ impl<'a> Model for Database<'a> {
 }
 
 impl<'a> Database<'a> {
-    /// The database of the clauses of a list, followed by those of the steps. A step is a learned clause with hints that show
-    /// that it follows. The clause with number k is alive, that is, not deleted, if `alive[k - 1]` is true.
+    /// The database of the clauses of a list, followed by those of the steps. A step is a learned clause, with hints: the
+    /// numbers of clauses that show that it follows. The clause with number k is alive, that is, not deleted, exactly when
+    /// `alive[k - 1]` is true. `alive` must have a value for each clause of the list and of the steps.
     pub fn new(clauses: &'a [Clause], steps: &'a [Step], alive: &'a [bool]) -> Database<'a>
         requires { length clauses.now + length steps.now ≤ length alive.now }
         ensures { result ≡ known_to clauses.now steps.now alive.now }
@@ -47,7 +48,7 @@ impl<'a> Database<'a> {
         self.count
     }
 
-    /// The clause with this number, if it is alive.
+    /// The clause with this number. `None` if there is no such clause, or if it is not alive.
     pub fn find_clause(&self, number: u64) -> Option<&'a [Literal]>
         ensures { option_copied result ≡ clause_of self.now number }
     {

@@ -1,6 +1,6 @@
 //! The order in which variables are decided, the most active first. A variable's activity is a number. It rises when the
 //! variable takes part in a conflict, that is, when the conflict or a clause resolved with it contains the variable. Later
-//! conflicts count for more (Moskewicz, Madigan, Zhao, Zhang and Malik 2001, Eén and Sörensson 2003). A variable that is
+//! conflicts count for more (Moskewicz, Madigan, Zhao, Zhang and Malik 2001; Eén and Sörensson 2003). A variable that is
 //! decided gets the value that it had last (Pipatsrisawat and Darwiche 2007). The variables stand in a binary heap. A variable
 //! that is taken from the heap is decided only if the trail says that it has no value. So no contract depends on the order: a
 //! bad one only costs time. No invariant says that the places kept here are within their lists. So the code tests these places.
@@ -31,14 +31,15 @@ const FOCUSED_PART: u64 = 20;
 #[derive(Clone, Copy, Debug)]
 pub enum Style {
     /// A conflict counts for a long time, as each adds only a little more than the one before. The variables of the learned
-    /// clause become more active a second time. After that, the variables of the clauses that forced their values become more
-    /// active too (Liang, Ganesh, Poupart and Czarnecki 2016). This style is better where a contradiction lies deep among many
-    /// variables, as on boxes and in pigeonhole problems.
+    /// clause become more active a second time. If a clause forced the value of such a variable, the variables of that clause
+    /// become more active too (Liang, Ganesh, Poupart and Czarnecki 2016). This style is better where a contradiction lies deep
+    /// among many variables, as in pigeonhole problems and in most questions about the symbols of the cells in a box.
     Broad,
     /// The latest conflicts count most, as each adds clearly more than the one before. In a conflict, a variable becomes more
     /// active only once, however many of the resolved clauses contain it, as in MiniSat (Eén and Sörensson 2003). This style is
-    /// better on large tori, where each cell is as good as any other: the search stays with the cells that it is working on. It
-    /// is better for comparisons of automata too.
+    /// better on large tori (a torus is a box of cells with its opposite sides joined): each cell is as good as any other
+    /// there, and the search stays with the cells that it is working on. This style is also better for the question whether two
+    /// automata differ.
     Focused,
 }
 
@@ -53,8 +54,8 @@ struct Rank {
 /// The variables in the order in which they are decided, the most active first.
 #[derive(Drop)]
 pub struct Order {
-    /// The first `waiting` entries are a binary heap of the variables that wait to be decided. The variables taken from the heap
-    /// stand after it.
+    /// The first `waiting` places hold a binary heap of the variables that wait to be decided. The variables taken from the
+    /// heap stand after it.
     heap: Vec<usize>,
     /// The rank of each variable, at the index of its number.
     ranks: Vec<Rank>,
@@ -201,7 +202,8 @@ impl Order {
     }
 
     /// Takes variables out of the heap, until one has no value. Returns the literal that this variable's last value makes true.
-    /// `None` if each variable has a value.
+    /// `None` if each variable has a value. If the heap runs out first, the literal is the negation of the first variable
+    /// without a value. This never happens.
     pub fn choose(&mut self, trail: &Trail) -> Option<Literal>
         requires { trail.now.variables < 2 ^ 32 }
         ensures { MatchOption result (IsFull trail.now.variables trail.now.entries) (λ l. IsFree trail.now.variables trail.now.entries l.variable) }
@@ -280,7 +282,7 @@ impl Order {
     }
 
     /// Adds 1 to the activity of each literal's variable. After a call for each clause, the activities count the occurrences of
-    /// the variables. The heap is not arranged again.
+    /// the variables in the clauses. Does not arrange the heap again; `arrange` does.
     pub fn count(&mut self, literals: &[Literal]) {
         for literal in literals {
             let variable = literal.variable as usize;

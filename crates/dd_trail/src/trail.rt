@@ -1,10 +1,10 @@
 //! The literals that are true, in the order in which they became true. A list says of each literal whether it is false, so this
 //! can be looked up in constant time.
 //!
-//! A variable has a reason, a level and a place (see `Entry` and `Spot`) only while it has a value. What `reason`, `level`,
-//! `is_fixed` and `is_latest` return for any other variable means nothing. No contract depends on what they return. No
-//! invariant says that each variable has a spot, or that its place is on the trail. So the code tests both. For variables that
-//! have a value, the tests never fail.
+//! `reason`, `level`, `is_fixed` and `is_latest` are about a variable's entry on the trail (see `Entry`). For a variable
+//! without a value, what they return means nothing. No contract depends on what they return. No invariant says that each
+//! variable has a spot (see `Spot`), or that its place is on the trail. So the code tests both. For variables that have a
+//! value, the tests never fail.
 ghost use Rattle.std.specs.Prelude.{◌≡◌, ℕ, ◌+◌, ◌<◌, ◌≤◌, ◌^◌, ◌++◌, ◌∷◌, [], true, false, length, take, slice_set, ◌-◌, IfOk, OnOk, OnErr, MatchOption, IsTrue, ◌↔◌};
 ghost use Rattle.dd_clause.specs.Clauses.{IsLiteralInRange};
 ghost use Rattle.dd_values.specs.Variables.{true_variables};
@@ -27,7 +27,7 @@ pub struct Entry {
 }
 
 /// The place of a variable's entry on the trail, and its decision level: the number of decisions on the trail up to and
-/// including this entry.
+/// including this entry. Places are counted from 0.
 #[derive(Clone, Copy)]
 struct Spot {
     place: usize,
@@ -39,7 +39,7 @@ struct Spot {
 pub struct Trail {
     variables: usize,
     entries: Vec<Entry>,
-    /// For each literal, at the index of its code, whether it is false.
+    /// For each literal, at the index of its code (see `code_of`), whether it is false.
     denied: Vec<bool>,
     /// For each variable, at the index of its number, the spot of its entry. The spot is out of date if the variable has no value.
     spots: Vec<Spot>,
@@ -115,8 +115,8 @@ impl Trail {
         self.entries.as_slice()
     }
 
-    /// Adds an entry at the end, which makes its literal true. The literal's variable must be in range, and must not have a
-    /// value yet. If memory runs out, the entries stay the same.
+    /// Adds an entry at the end, which makes its literal true. The literal's variable must be one of the trail's variables, and
+    /// must not have a value yet. If memory runs out, the entries stay the same.
     pub fn assign(&mut self, entry: Entry) -> Result<(), AllocError>
         requires in_range { IsLiteralInRange self.old.variables entry.literal }
         requires fresh { has_variable entry.literal.variable (falses self.old.entries) ≡ false }

@@ -1,12 +1,15 @@
-//! Two watched literals (Moskewicz, Madigan, Zhao, Zhang and Malik 2001). Each clause with at least two literals watches two of
+//! The watched literals (Moskewicz, Madigan, Zhao, Zhang and Malik 2001). Each clause with at least two literals watches two of
 //! them, and need not be looked at while neither of these two is false. So when a literal becomes false, only the clauses that
-//! watch it are looked at. When the search goes back, no watch has to be undone. The watches only suggest clauses, and each
-//! suggested clause is tested exactly. So no contract depends on the watches: a clause that they miss only costs time. No
-//! invariant says that the places kept here are within their lists. So the code tests these places. The tests never fail.
+//! watch it are looked at. When the search goes back, no watch has to be undone. The watches only suggest clauses. For each
+//! suggested clause, `look_at` tests whether it is falsified or forces a literal. So no contract depends on the watches: a
+//! clause that they miss only costs time. No invariant says that the places kept here are within their lists. So the code tests
+//! these places. The tests never fail.
 //!
 //! Each literal has a list of watchers. A watcher names a clause that watches the literal, and another literal of this clause.
-//! To pass a watcher is to look at its clause, unless this other literal is true. The watcher then stays in the list, or moves
-//! to the list of another literal.
+//! An entry of the trail makes the negation of its literal false. To read the entry is to pass the watchers of this negation,
+//! one after the other. To pass a watcher is to look for a literal that its clause can watch instead of the false one. This is
+//! not needed if the watcher's other literal is true, or if the other literal that the clause watches is true. A passed watcher
+//! stays in the list, or moves to the list of the literal that its clause now watches.
 ghost use Rattle.std.specs.Prelude.{◌≡◌, ◌<◌, ◌^◌, length, IfOk, MatchOption, ⊤};
 ghost use Rattle.dd_trail.specs.Trails.{falses, IsFull};
 ghost use Rattle.dd_trail.specs.Propagation.{Says, AreOpenBetween};
@@ -18,7 +21,7 @@ use dd_clause::Literal;
 use std::alloc::{AllocError, Global};
 use std::mem;
 
-/// A literal's code (see `code_of`), in four bytes. It always fits, as there are at most 2^24 variables.
+/// A literal's code (see `code_of`), in four bytes. It always fits, as a clause list has at most 2^24 variables.
 #[derive(Clone, Copy, PartialEq, Eq)]
 struct Code {
     index: u32,
@@ -80,9 +83,9 @@ pub struct Watches {
     count: u32,
     /// How many entries of the trail have been read.
     read: usize,
-    /// The place of the next watcher to be passed, in the list of the literal that the next entry to be read makes false.
+    /// The place of the next watcher to be passed, in the list of the literal that the entry at the place `read` makes false.
     at: usize,
-    /// The clauses with numbers up to this one have been looked at once since they were added.
+    /// The clauses with numbers up to this one have each been looked at since they were added.
     scanned: u64,
     /// Whether deleted clauses may still be among the watchers.
     has_deleted: bool,
@@ -109,7 +112,7 @@ fn watch(lists: &mut Vec<Vec<Watcher>>, literal: Code, watcher: Watcher) -> Resu
     Ok(())
 }
 
-/// The first place, from `from` on, with a literal that is not false.
+/// The first place, from `from` on, with a literal that is not false, or with an end mark.
 fn find_not_false(denied: &[bool], literals: &[Code], from: usize) -> Option<usize>
     ensures { MatchOption result ⊤ (λ place. place < length literals.now) }
 {
@@ -121,8 +124,8 @@ fn find_not_false(denied: &[bool], literals: &[Code], from: usize) -> Option<usi
     None
 }
 
-/// Looks in the clause for a literal to watch instead of the one that became false. `clause` is the place of the clause's first
-/// literal.
+/// Looks in the clause for a literal to watch instead of the one that became false, unless the other literal that it watches is
+/// true. `clause` is the place of the clause's first literal.
 fn rewatch(denied: &[bool], literals: &mut [Code], clause: u32, became_false: Code) -> Look {
     let first = clause as usize;
     let second = first + 1;
@@ -257,8 +260,8 @@ impl Watches {
         }
     }
 
-    /// Drops the clauses that are not alive: their literals, and their entries in the lists of watchers. The other clauses
-    /// watch their first two literals again.
+    /// Drops the clauses that are not alive: their literals and their watchers. The other clauses keep watching their first two
+    /// literals.
     fn drop_deleted(&mut self, alive: &[bool]) -> Result<(), AllocError> {
         for list in self.lists.iter_mut() {
             list.clear();
@@ -292,8 +295,8 @@ impl Watches {
         }
     }
 
-    /// Notes that the trail is cut to this length, and drops deleted clauses. The clause with number k is alive if
-    /// `alive[k - 1]` is true.
+    /// Notes that the trail is cut to this length, and drops the deleted clauses. The clause with number k is alive exactly
+    /// when `alive[k - 1]` is true. `alive` must have a value for each clause that was added.
     pub fn cut(&mut self, length: usize, alive: &[bool]) -> Result<(), AllocError> {
         if length <= self.read {
             self.read = length;
@@ -314,7 +317,7 @@ impl Watches {
         0
     }
 
-    /// Exchanges a literal's list with `passed`: takes the list out to be passed, or puts it back.
+    /// Exchanges a literal's list with `passed`: takes the list out, so that its watchers are passed, or puts it back.
     fn exchange(&mut self, literal: Code) {
         let list = literal.index();
         if list < self.lists.len() {
@@ -349,8 +352,7 @@ impl Watches {
         }
     }
 
-    /// Reads on along the trail, until a clause is falsified or forces a literal. Each entry makes the negation of its literal
-    /// false, so the watchers of the negation are passed.
+    /// Reads the entries of the trail that have not been read yet, until a clause is falsified or forces a literal.
     fn read(&mut self, database: &Database, trail: &Trail) -> Result<Scan, AllocError>
         ensures { IfOk result (Says database.now (falses trail.now.entries) ⊤) }
     {
@@ -381,9 +383,9 @@ impl Watches {
         Ok(Scan::Nothing)
     }
 
-    /// Looks for a clause that is falsified or forces a literal. Each new clause is looked at once, as a clause with fewer than
-    /// two literals watches none. If each variable has a value, all clauses are looked at once more. The contract depends on
-    /// this.
+    /// Looks for a clause that is falsified or forces a literal. First reads on along the trail. Then looks at each new clause,
+    /// as a clause with fewer than two literals watches none. Last, if each variable has a value, looks at all clauses once
+    /// more. Only in this case does `Nothing` promise that no clause is falsified or forces a literal.
     pub fn find(&mut self, database: &Database, trail: &Trail) -> Result<Scan, AllocError>
         requires { trail.now.variables < 2 ^ 32 }
         ensures { IfOk result (Says database.now (falses trail.now.entries) (IsFull trail.now.variables trail.now.entries → AreOpenBetween database.now (falses trail.now.entries) 0 (length database.now))) }

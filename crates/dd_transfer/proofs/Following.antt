@@ -44,7 +44,8 @@ fewer r look x y m n low high has c inside node = has c (record { from = lower x
 some_there : (r : LocalRule) (look : Look) (x : ℤ) (n : ℕ) (c : Cell) → HasSlices r look x n → IsInSlices x n c → c.node < r.nodes → is_some (look c) ≡ true
 some_there r look x n c has inside node = let g = given r look x n c has inside node in ap is_some g.is
 
--- what the rule reads at the cells of the tested slice lies in the window
+-- let y be the x coordinate of the tested slice of the window that begins at x. If the slice at d, relative to the tested slice, lies in the window
+-- when this begins at 0, then the slice at d + y lies in the window that begins at x
 read_within : (r : LocalRule) (x y d : ℤ) → y ≡ x +ℤ stand r → (pos 0 ≤ℤ (d +ℤ stand r)) × (unsigned_abs (d +ℤ stand r) < state_length r + 1) →
     (x ≤ℤ (d +ℤ y)) × ((d +ℤ y) <ℤ (x +ℤ pos (state_length r + 1)))
 read_within r x y d at spot = within x y d (stand r) (state_length r + 1) at spot.0 spot.1
@@ -116,7 +117,7 @@ module _ (r : LocalRule) (s : Strip) (look : Look) (rule : IsRule r) (for : IsFo
         let same : numbered_window r s (window_from r s look x) ≡ part r s look x = ap (window_look s) (digits_from r s look for x (state_length r + 1) has) in
         (λ is. kept_of_part (subst (IsKept r) same is), λ kept. subst (IsKept r) (sym same) (kept_in_part kept))
 
-    -- the window without its first slice is the next state
+    -- if the rule keeps the window that begins at x, an edge by its last slice leads from the state that begins at x to the one that begins at x + 1
     edge_is : IsKeptFrom r look x → IsEdge r s (state_from r s look x) (slices_from r s look (x +ℤ pos (state_length r)) 1) (state_from r s look (x +ℤ pos 1))
     edge_is kept =
         let w = state_length r in

@@ -34,7 +34,7 @@ set_parts xs i v h =
 -- ---- what is left to carry
 
 -- what is left to do while a digit is carried: the first `at` digits are those of a number, and have to become those of the next number. The other
--- digits are done. Together they will then be the wanted digits
+-- digits are done. Once the first digits are replaced too, the whole list is `wanted`
 pub record Carries (base at : ℕ) (xs wanted : List ℕ) : Type 0 where
   pub number : ℕ
   pub begun : take at xs ≡ digits base at number

@@ -35,7 +35,8 @@ one_power : (w : ℕ) → 1 ^ w ≡ 1
 one_power zero = refl
 one_power (suc w) = pow-suc 1 w ∙ (ap (λ (n : ℕ). n * 1) (one_power w) ∙ refl)
 
--- if there are at least two symbols and at most 131,072 windows, a slice has at most 8 cells
+-- if there are at least two symbols and at most 131,072 windows, a slice has at most 8 cells. Here b is the number of symbols, c that of the cells in
+-- a slice, and w that of the slices in a state
 few_cells : (b c w : ℕ) → 2 ≤ b → 1 ≤ w → (b ^ c) ^ (w + 1) ≤ 131072 → c ≤ 8
 few_cells b c w two h small = elim (cases_lt 8 c) [
   | inr le ↦ le
@@ -69,7 +70,7 @@ cells_few s sized = most s.nodes s.y s.z sized.nodes_most sized.y_most sized.z_m
         let two : a * (b * c) ≤ 4 * (b * c) = mul-le-mul_right (b * c) p in
         omega (arith, one, two)
 
--- the number of states times the weight of a slice is at most 2^25
+-- with the same b, c and w, the number n of states times the weight x of a slice is at most 2^25, if the weight of a symbol is at most 1,000
 light_one : (b c w n x : ℕ) → 1 ≤ b → 1 ≤ w → c ≤ 16384 → n ≡ (b ^ c) ^ w → n ≤ 4096 → (b ^ c) ^ (w + 1) ≤ 131072 → x ≤ 1000 * c → n * x ≤ 2 ^ 25
 light_one b c w n x some h most is few small weight = elim (cases_lt 1 b) [
   | inl two ↦

@@ -1,4 +1,5 @@
--- How far a rule reads to the left and to the right.
+-- How far a rule reads to the left and to the right. Cells are given relative to the cell at which the rule is evaluated. The least and the greatest
+-- x are those of the cells that the rule reads and of this cell, which has the x 0.
 use Rattle.std.proofs.Common.{◌≡◌, ℕ, zero, suc, ◌+◌, ◌-◌, ◌<◌, ◌≤◌, Bool, true, List, [], ◌∷◌, ◌++◌, ℤ, pos, negsuc, ◌≤ℤ◌, unsigned_abs, ◌+ℤ◌, refl, ap, sym, ◌∙◌, subst, arith, inl, inr}
 use Rattle.std.proofs.lemmas.{Int.ints, Bool.and_parts, Bool.and_from, Bool.leb-true, Bool.cases_eq}
 use Rattle.std.proofs.lemmas.List.Folds.{list_all-append}
@@ -26,7 +27,7 @@ greatest_high from (c ∷ cs) = along _ _ _ (max_left from c.position.x) (greate
 abbrev pub between : ℤ → ℤ → Cell → Bool
 between lo hi c = int_le lo c.position.x && int_le c.position.x hi
 
--- the x of each cell lies between the least and the greatest x
+-- if lo is at most the least x of the cells, and hi at least the greatest, the x of each cell lies between lo and hi
 all_between : (from from' : ℤ) (lo hi : ℤ) (cs : List Cell) → lo ≤ℤ least_x from cs → greatest_x from' cs ≤ℤ hi → list_all (between lo hi) cs ≡ true
 all_between from from' lo hi [] p q = refl
 all_between from from' lo hi (c ∷ cs) p q =

@@ -20,7 +20,7 @@ use dd_strip::Strip;
 use std::alloc::{AllocError, Global};
 
 /// The transfer graph of a rule over the strip with the periods `strip` along y and z. The symbol `s` has the weight
-/// `weights[s]`.
+/// `weights[s]`. There is one weight for each symbol, and none exceeds 1,000.
 ///
 /// # Errors
 /// `Size` if the graph would have more than 4,096 states or more than 131,072 windows. Otherwise `Memory`, if memory runs

@@ -10,7 +10,7 @@ ghost use Rattle.dd_transfer.specs.Laws.{AreDigits, AreEdgesOf};
 /// Does nothing. Its contract relates the slices of a look to the edges of a transfer graph. A look gives each cell a
 /// symbol, or none. Suppose that a look repeats with the strip's periods along y and z, gives each cell a symbol of the
 /// alphabet, and has only windows that the rule keeps. Then the look's states, one after another, form a walk through the
-/// graph.
+/// graph. The contract also relates numbers and their digits.
 pub fn slices_are_walks()
     ensures digits { (base : ℕ) → AreDigits base }
     ensures edges { (r : LocalRule) (s : Strip) (look : Look) → IsRule r → IsFor r s → RepeatsAcross s look → AreEdgesOf r s look }

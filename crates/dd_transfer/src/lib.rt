@@ -8,6 +8,9 @@
 //! window. The rule keeps a window if each symbol is one that its node allows, and the rule is true at each cell of the tested
 //! slice. The windows that it keeps are the edges. Such an edge leads from the window without its last slice to the window
 //! without its first slice.
+//!
+//! The symbols of states and windows are listed slice by slice, and within a slice in cell order: by z, then y, then the node.
+//! The place of a cell is its index in this list, counted from 0.
 #![tactic(auto)]
 
 mod building;

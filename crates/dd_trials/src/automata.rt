@@ -58,7 +58,7 @@ fn first_of(
     }
 }
 
-/// The same for the goal of the script's first box question.
+/// The value that `first_of` finds for the premise and the goal of the script's first box question.
 fn first_value(alloc: Global, script: &Script, filling: &Filling) -> Result<Option<u32>, Fail> {
     for query in script.queries() {
         let pairs = script.pairs(alloc, query)?;

@@ -208,7 +208,7 @@ fn compared(
     Ok((found, admissible(alloc, premise, goal, &cells)?))
 }
 
-/// The same two numbers for each filling, for the script's first box question.
+/// The numbers that `compared` finds for the script's first box question.
 fn compared_query(
     alloc: Global,
     script: &Script,
@@ -224,7 +224,7 @@ fn compared_query(
     Err("a box question".into())
 }
 
-/// The same for the script whose text has these parts.
+/// The numbers that `compared_query` finds for the script whose text has these parts.
 fn compared_script(
     alloc: Global,
     script: &[&str],

@@ -29,7 +29,7 @@ fn emptiness_of(alloc: Global, script: &Script) -> Result<Cnf, Fail> {
     clauses_of(alloc, rule, &Goal::Always, 0)
 }
 
-/// The same for a script's text.
+/// The clauses that `emptiness_of` finds for the script with this text.
 fn emptiness(alloc: Global, script: &str) -> Result<Cnf, Fail> {
     let script = script_of(alloc, &[script])?;
     emptiness_of(alloc, &script)
@@ -52,8 +52,9 @@ fn no_cell_has_two_symbols(rt: HostRuntime) -> Result<(), Fail> {
     Ok(())
 }
 
-/// The number of clauses of a question on the box of this radius, or on the torus with this period if that has more positions.
-/// The premise is the script's first rule, and the goal has `goal` clauses.
+/// The number of clauses of a question on the box of this radius, or on the torus with this period along each axis, if that has
+/// more positions. The premise is the script's first rule, and the goal has `goal` clauses. A number over the limit
+/// `MOST_CLAUSES` is cut off to one more than the limit.
 fn size_of(script: &Script, goal: u32, radius: u32, period: u32) -> Result<u32, Fail> {
     if radius > 8 {
         return Err("a radius".into());
@@ -62,7 +63,7 @@ fn size_of(script: &Script, goal: u32, radius: u32, period: u32) -> Result<u32, 
     Ok(question_clauses(rule, goal, radius, period, MOST_CLAUSES))
 }
 
-/// The same for a script's text.
+/// The number of clauses that `size_of` finds for the script with this text.
 fn size(alloc: Global, script: &str, goal: u32, radius: u32, period: u32) -> Result<u32, Fail> {
     let script = script_of(alloc, &[script])?;
     size_of(&script, goal, radius, period)

@@ -40,7 +40,7 @@ fn filling_with(alloc: Global, rule: &Rule, ones: &[Place]) -> Result<Filling, F
     Ok(Filling::new(cells, symbols))
 }
 
-/// Whether the rule is true at a node of the origin.
+/// Whether the rule is true at a node of the origin; `None` if the filling lacks a cell that the rule reads there.
 fn truth_at(rule: &Rule, filling: &Filling, node: u32) -> Result<Option<bool>, Fail> {
     if !filling.symbols().iter().all(|s| *s < rule.symbols()) {
         return Err("symbols of the rule".into());

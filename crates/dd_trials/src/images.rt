@@ -1,5 +1,6 @@
 // A question about images or a conjugacy becomes pairs of automata: it asks whether the two automata of each pair agree. Here
-// both automata of a pair are applied to a configuration.
+// both automata of a pair are applied to a configuration. For a question about images, the first gives 1 to each cell at which
+// the image breaks the rule or has a symbol that the node doesn't allow, and 0 to all others. The second gives 0 to each cell.
 
 use crate::scripts::{parsed, script_of};
 use dd_automaton::apply;
@@ -33,7 +34,8 @@ fn image(
     Ok(apply(alloc, automaton, periodic)?)
 }
 
-/// Asserts the images of the script's first configuration under the two automata in the goal.
+/// Asserts that the images of the script's first configuration under the two automata in the goal have the symbols `first` and
+/// `second`.
 fn assert_images(
     rt: &impl Abort,
     alloc: Global,
@@ -52,7 +54,7 @@ fn assert_images(
     Ok(())
 }
 
-/// Asserts the same for the goal of the script's first box question.
+/// Asserts the images under the two automata in the goal of the script's first box question, as `assert_images` does.
 fn assert_image(
     rt: &impl Abort,
     alloc: Global,
@@ -190,8 +192,8 @@ fn rules_too_deep_for_images(rt: HostRuntime) -> Result<(), Fail> {
 
 const THREE: &str = "%dim 1 %alphabet 0 1 2 %rule x o@o %conf c [3] 0 1 2 ";
 
-// The neighbour of each second node along a is the first node at the same position. Its neighbour along b is the first node one
-// position further.
+// From each second node, the move a leads to the first node at the same position, and the move b to the first node one position
+// to the right.
 const HEXAGONS: &str = "%topology hex %rule x o@o %conf c [3 1] 1 0 0 0 0 0 ";
 
 /// A setting with a configuration, a map, and a map back. Then the symbols of the configuration, of its image under the map and

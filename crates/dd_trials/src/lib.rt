@@ -5,7 +5,7 @@
 //! has a premise, which is a rule, and a goal. It asks whether no configuration that obeys the premise has the goal. There are
 //! three kinds of goal: that another rule is false at some node of the origin, that two automata differ at some node of the
 //! origin, and `Always`, which holds in every configuration. A filling of a box is admissible if the premise is true at each
-//! cell for which the box holds all that the premise reads there.
+//! cell of the box for which the box holds all that the premise reads there.
 //!
 //! A circuit has a variable for each input and each gate. A signal is a variable or its negation. The inputs of a cell are
 //! signals that say which symbol the cell has, one for each symbol.

@@ -12,7 +12,7 @@ fn joined(alloc: Global, parts: &[&str]) -> Result<Vec<u8>, AllocError> {
     Ok(bytes)
 }
 
-/// The script whose text has these parts, or the reason why it is refused.
+/// The script whose text has these parts, or the reason why it is refused. Fails if the text has more than 1,048,576 bytes.
 pub(crate) fn parsed(alloc: Global, parts: &[&str]) -> Result<Result<Script, ScriptFault>, Fail> {
     let bytes = joined(alloc, parts)?;
     if bytes.len() > 1_048_576 {
@@ -21,7 +21,7 @@ pub(crate) fn parsed(alloc: Global, parts: &[&str]) -> Result<Result<Script, Scr
     Ok(parse(alloc, &bytes))
 }
 
-/// The script whose text has these parts.
+/// The script whose text has these parts. Fails if it is refused, or if the text has more than 1,048,576 bytes.
 pub(crate) fn script_of(alloc: Global, parts: &[&str]) -> Result<Script, Fail> {
     Ok(parsed(alloc, parts)??)
 }

@@ -66,8 +66,8 @@ fn placed(
     Ok((circuit, signal))
 }
 
-/// Compiles the rule at a node of the origin. Returns the circuit and the signal of the rule. Fails if the rule's template gives
-/// other gates or another signal.
+/// Compiles the rule at a node of the origin. Returns the circuit and the signal of the rule. Fails if there are more than four
+/// cells, if the cells lack one that the rule reads, or if the rule's template gives other gates or another signal.
 fn compiled(
     alloc: Global,
     rule: &Rule,
@@ -180,7 +180,7 @@ fn times_in(
 /// Formulas, each with the number of fillings for which it is true at each node.
 type Times = &'static [(&'static str, &'static [usize])];
 
-/// Asserts these numbers for each formula, at the end of a script that begins with `beginning`.
+/// For each formula, asserts these numbers for the script whose text is `beginning`, followed by the formula.
 fn assert_times(
     rt: &impl Abort,
     alloc: Global,

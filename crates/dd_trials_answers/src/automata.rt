@@ -69,7 +69,8 @@ const DIFFERENT: &str =
 // Lines of answers to this script, and whether a check accepts them.
 const CHECKED: [(&str, bool); 4] = [
     ("query 1 NO 1 1\nconf 1\n", true),
-    // In the first two, both automata give the origin the value 0. The third names a side, which only an equality has.
+    // In the next two answers, both automata give the origin the value 0. The last answer names a side, which only an answer to
+    // an equality has.
     ("query 1 NO 1 1\nconf 0\n", false),
     ("query 1 NO 2 1\nconf 0 1\n", false),
     ("query 1 NO left 1 1\nconf 1\n", false),
@@ -108,7 +109,8 @@ fn push_elementary(
     text.push_str(format!(in alloc; " else {value}\n")?.as_str())
 }
 
-// A script with sixteen of these automata, from the number `first` on, and for each the query whether it commutes with the shift.
+// A script with sixteen elementary automata, numbered from `first` on. For each of them a query asks whether it commutes with
+// the shift.
 fn commuting(alloc: Global, first: u32) -> Result<String, AllocError> {
     let mut text = String::from_str(
         alloc,

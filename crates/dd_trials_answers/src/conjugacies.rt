@@ -1,8 +1,8 @@
-// Whether an automaton maps one rule's configurations into another's, and whether two automata are inverse maps between the two
-// rules' configurations: the answers of runs, and whether a check accepts these and other answers. `%conjugate f g x y` asks
-// four questions. Does f map x into y? Does g map y into x? Does f followed by g leave each configuration of x as it is? Does g
-// followed by f leave each configuration of y as it is? CONJUGATE gives a radius for each question, and BROKEN the number of a
-// question whose answer is NO.
+// Tests of two kinds of query: what runs answer, and which answers a check accepts. `%maps f x y` asks whether f maps each
+// configuration of the rule x to one of the rule y. `%conjugate f g x y` asks four questions. Does f map x into y? Does g map y
+// into x? Does f followed by g leave each configuration of x as it is? Does g followed by f leave each configuration of y as it
+// is? CONJUGATE gives a radius for each question, and BROKEN the number of a question whose answer is NO, followed by the
+// periods of a configuration that shows it.
 use crate::outputs::{assert_answers, assert_checks, assert_lines};
 use std::test::Fail;
 
@@ -71,7 +71,7 @@ const LOSING: &str =
 // Lines of answers to this script, and whether a check accepts them.
 const CHECKED: [(&str, bool); 10] = [
     ("query 1 BROKEN 3 2\nconf 1 0\n", true),
-    // An answer need not name the first question whose answer is NO, nor give the first periods.
+    // An answer need not name the first question whose answer is NO, nor give the periods that a run finds first.
     ("query 1 BROKEN 4 2\nconf 1 0\n", true),
     ("query 1 BROKEN 3 3\nconf 1 0 0\n", true),
     ("query 1 UNKNOWN limits\n", true),
@@ -107,7 +107,7 @@ const INVERSE: [(&str, bool); 4] = [
         "query 1 CONJUGATE 0 0 0 0\nrefutation 1\nstep 0 3 5 10 14 19 27 20 21 25 32 33 0 0\nrefutation 1\nstep 0 3 21 26 32 5 10 14 17 28 36 37 0 0\nrefutation 1\nstep 0 3 5 10 14 19 27 20 21 25 32 33 0 0\nrefutation 1\nstep 0 3 21 26 32 5 10 14 17 28 36 37 0 0\n",
         false,
     ),
-    // The radius of the fourth question is a different one.
+    // The radius of the fourth question is 1, but its step is the one for the radius 0.
     (
         "query 1 CONJUGATE 0 0 0 1\nrefutation 1\nstep 0 3 5 10 14 19 27 20 21 25 32 33 0 0\nrefutation 1\nstep 0 3 5 10 14 19 27 20 21 25 32 33 0 0\nrefutation 1\nstep 0 3 21 26 32 5 10 14 17 28 36 37 0 0\nrefutation 1\nstep 0 3 21 26 32 5 10 14 17 28 36 37 0 0\n",
         false,

@@ -1,6 +1,7 @@
-// Least densities of strips: known values, and whether a check accepts the answers of runs and other answers. A slice gives a
-// symbol to each cell of the strip that has a given x. The states of the transfer graph are rows of slices, and an edge appends
-// one slice. The evidence for a density is a cycle, and a potential for each state of the graph. The evidence for EMPTY is a
+// Least densities of strips: known values, and whether a check accepts the answers of runs and other answers. A strip is the
+// lattice rolled up along every axis but the first, with the periods that the query gives. A slice gives a symbol to each cell
+// of the strip that has a given x. The states of the transfer graph are sequences of slices. An edge drops the first slice and
+// appends one. The evidence for a density is a cycle, and a potential for each state of the graph. The evidence for EMPTY is a
 // rank for each state. `dd_density` says what potentials and ranks are.
 use crate::outputs::{assert_checks, assert_lines};
 use std::test::Fail;

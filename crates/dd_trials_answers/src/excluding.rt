@@ -27,7 +27,8 @@ const SCRIPT: &[u8] = b"%dim 1
 %contains sparse hard
 ";
 
-// The index of an answer, the number of a query, and whether the answer, if it is given to this query, excludes the query's goal.
+// The index of an answer, from 0 on; the number of a query, from 1 on; and whether the answer, if it is given to this query,
+// excludes the query's goal. No query has the number 0 or 4.
 const ROWS: &[(usize, u32, bool)] = &[
     (0, 1, true),
     (0, 2, false),

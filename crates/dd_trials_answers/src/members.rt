@@ -1,4 +1,5 @@
-// Queries about membership.
+// Queries about membership. `%member c r` asks whether the configuration c obeys the rule r. OUT gives the first cell at which
+// it breaks the rule: the position, and then the node.
 use crate::formulas;
 use crate::outputs::assert_answers;
 use dd_trials_runs::HARD;
@@ -82,7 +83,7 @@ const WORDS_AND_TOKENS: [(&str, &str); 4] = [
     ("%conf z[1 1]0%rule a Ap[o1]p=0%member z a", "query 1 IN\n"),
 ];
 
-// Configurations with a shear. Each row is the row below it, shifted by the shear.
+// Configurations with a shear. Each row is the row below it, moved to the right by the shear.
 const SHEARED: [(&str, &str); 2] = [
     (
         "%alphabet 0 1 2 %conf c [3 1] [2] 1 2 0 %rule d (o=0 -> o.rt=1 & o.up=1) & (o=1 -> o.rt=2 & o.up=2) & (o=2 -> o.rt=0 & o.up=0) %member c d",

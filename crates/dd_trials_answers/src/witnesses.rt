@@ -9,7 +9,7 @@ const BOX_QUESTIONS: [(&str, &[(&str, bool)]); 4] = [
         "%limits 2 3 10 %rule hard o=1 -> (o.rt=0 & o.up=0) %rule row o=1 -> o.rt=0 %contains hard row",
         &[
             ("query 1 NO 2 1\nconf 1 0\n", true),
-            // The periods need not be the first.
+            // The periods need not be those that a run finds first.
             ("query 1 NO 3 1\nconf 1 0 0\n", true),
             ("query 1 UNKNOWN limits\n", true),
             // The first configuration breaks `hard`, but not at the origin. The second and the fourth, which is a chessboard,
@@ -73,8 +73,8 @@ const BOX_QUESTIONS: [(&str, &[(&str, bool)]); 4] = [
 
 // Shears, nodes that allow only some symbols, and membership.
 const OTHERS: [(&str, &[(&str, bool)]); 4] = [
-    // Each row is the row below it, shifted by the shear. With the period 3 a shift by 2 is the same as one by -1. So the cell
-    // up and to the right of the origin has a symbol other than the origin's.
+    // Each row is the row below it, moved to the right by the shear. With the period 3, a move by 2 to the right is the same as
+    // one by 1 to the left. So the cell up and to the right of the origin has a symbol other than the origin's.
     (
         "%alphabet 0 1 2 %rule three Ap[o1] (p~o -> p!=o) %rule diagonal o=o.rt.up %contains diagonal three",
         &[
@@ -102,7 +102,8 @@ const OTHERS: [(&str, &[(&str, bool)]); 4] = [
             ("query 1 NO 1 1\nconf 0 1\n", false),
         ],
     ),
-    // Only the first cell of the fundamental box at which the rule is false will do.
+    // An answer must name a cell of the box from 0 to 2, the first one at which the rule is false. In this box it is false only
+    // at 0.
     (
         "%dim 1 %rule far o.rt.rt=1 %conf c [3] 1 1 0 %member c far",
         &[

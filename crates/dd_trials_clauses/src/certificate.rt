@@ -45,7 +45,8 @@ fn writes_each_kind(rt: HostRuntime) -> Result<(), Fail> {
     Ok(())
 }
 
-/// The length of the longest prefix of the text that could begin an output; `None` if the text isn't refused.
+/// The length of the longest prefix of the text that could begin an output; `None` if the text is an output, or if memory runs
+/// out.
 fn refused_at(alloc: Global, text: &[u8]) -> Option<u64> {
     match read_output(alloc, text) {
         Err(CertificateFault::Malformed(at)) => Some(at),
@@ -108,7 +109,7 @@ fn refuses_cut_texts(rt: HostRuntime) -> Result<(), Fail> {
     Ok(())
 }
 
-/// The head of an output, the lines after the script, and the length of the text's longest prefix that could begin an output.
+/// The lines before the script, the lines after it, and the length of the text's longest prefix that could begin an output.
 const ALTERED: &[(&str, &str, u64)] = &[
     ("diddy 2\nscript 34\n", LINES, 6),
     ("diddy 1\nscript 35\n", LINES, 53),

@@ -36,6 +36,7 @@ fn assignment_of(alloc: Global, values: &[bool]) -> Result<Assignment, AllocErro
 // The variable 3 is the conjunction of the variables 1 and 2. One of these two must be true, and the other false.
 const GATE: &[i32] = &[1, 2, 0, -1, -2, 0, -3, 1, 0, -3, 2, 0, 3, -1, -2, 0];
 
+// The clauses of `GATE`, and one that says that the variable 3 is true.
 const GATE_IS_TRUE: &[i32] = &[1, 2, 0, -1, -2, 0, -3, 1, 0, -3, 2, 0, 3, -1, -2, 0, 3, 0];
 
 #[test]

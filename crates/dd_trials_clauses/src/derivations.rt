@@ -1,8 +1,8 @@
 // Checks of refutations and of single steps. Clauses are given by signed numbers of variables, with 0 at the end of each
-// clause. A negative number stands for the negation of its variable. The clauses of the list are numbered from 1, and then the
-// clauses of the steps. A step is given by the literals of its clause, 0, its hints, 0, its deletes and 0. Hints are the
-// numbers of the clauses from which the step's clause follows, and deletes are the numbers of the clauses that the step
-// removes.
+// clause. A negative number stands for the negation of its variable. The clauses of the list are numbered from 1, and the
+// clauses of the steps get the numbers after these. A step is given by the literals of its clause, 0, its hints, 0, its deletes
+// and 0. Hints are the numbers of the clauses from which the step's clause follows, and deletes are the numbers of the clauses
+// that the step removes.
 use dd_clause::{Clause, Cnf, Literal};
 use dd_derivation::{Marks, Step, check_refutation, check_step};
 use dd_values::Items;
@@ -171,13 +171,13 @@ fn a_literal_that_stands_twice_in_a_clause_counts_once(rt: HostRuntime) -> Resul
 /// hints to both. The list has no variable 9.
 const OUT_OF_RANGE: &[i32] = &[9, 0, 1, 0, 0, -9, 1, 0, 1, 0, 0, 1, 0, 7, 8, 0, 0];
 
-/// Steps, the index of the one step that is checked, and whether it is right after those before it.
+/// Steps, the index of the one step that is checked, and whether this step is correct, given the steps before it.
 const STEPS_AFTER_EARLIER_ONES: &[(&[i32], usize, bool)] = &[
     (BOTH_AND_NOTHING, 0, true),
     (BOTH_AND_NOTHING, 1, true),
     (BOTH_AND_NOTHING, 2, true),
-    // what an earlier step deletes is gone, even if that step is not right because it deletes a clause twice, or the clause of a
-    // later step
+    // what an earlier step deletes is gone, even if that step is wrong: it deletes a clause twice, or the clause of a later
+    // step
     (&[1, 0, 6, 3, 0, 3, 3, 0, 2, 0, 6, 4, 0, 0], 1, true),
     (&[1, 0, 6, 3, 0, 3, 3, 0, 1, 0, 6, 3, 0, 0], 1, false),
     (

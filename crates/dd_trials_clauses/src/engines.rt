@@ -146,6 +146,7 @@ const CHAIN: &[i32] = &[-2, 0, -1, 2, 2, 0, 1, 1, 0];
 // Clauses that no assignment satisfies, and from which unit propagation derives nothing.
 const SQUARE: &[i32] = &[1, 2, 0, 1, -2, 0, -1, 2, 0, -1, -2, 0];
 
+// A clause of one literal, and the empty clause.
 const EMPTY_CLAUSE: &[i32] = &[1, 0, 0];
 
 const NO_STEPS: Member = Member::Fake(Habit::NoSteps);

@@ -6,7 +6,7 @@ use dd_derivation::Step;
 use dd_values::Items;
 use std::alloc::{AllocError, Global};
 
-/// A list of one step. Its clause has these literals.
+/// A list of one step with these hints and deletes. Its clause has these literals.
 fn steps(
     alloc: Global,
     literals: &[i32],
@@ -37,7 +37,8 @@ fn yes(alloc: Global) -> Result<Answer, AllocError> {
     })
 }
 
-/// Steps for both directions, with the largest variable and the largest hint in the first.
+/// The answer that two rules are equal: for each direction, a radius and steps. The steps of the first direction have the
+/// largest variable and the largest hint.
 fn yes_both(alloc: Global) -> Result<Answer, AllocError> {
     Ok(Answer::YesBoth {
         left: 3,
@@ -47,7 +48,8 @@ fn yes_both(alloc: Global) -> Result<Answer, AllocError> {
     })
 }
 
-/// A NO with a configuration of periods 2 and 1.
+/// A NO with a configuration of periods 2 and 1. For a query about the equality of two rules, the side says which of them the
+/// configuration obeys.
 fn no(alloc: Global, side: Side, shear: u64) -> Result<Answer, AllocError> {
     Ok(Answer::No {
         side,
@@ -82,7 +84,7 @@ fn density(alloc: Global) -> Result<Answer, AllocError> {
     })
 }
 
-/// Amounts and duals over a common denominator.
+/// The amounts and the duals of a discharging bound, over a common denominator.
 fn bound(alloc: Global) -> Result<Answer, AllocError> {
     Ok(Answer::Bound {
         numerator: 1,
@@ -123,7 +125,8 @@ fn conjugate(alloc: Global) -> Result<Answer, AllocError> {
     })
 }
 
-/// The number of that question of a conjugacy to which the answer is no, and a configuration that shows this.
+/// A conjugacy query asks four questions. This answer has the number of one of them whose answer is no, and a configuration
+/// that shows this.
 fn broken(alloc: Global, part: u64, periods: &[u64], shear: u64) -> Result<Answer, AllocError> {
     Ok(Answer::Broken {
         part,
@@ -133,7 +136,7 @@ fn broken(alloc: Global, part: u64, periods: &[u64], shear: u64) -> Result<Answe
     })
 }
 
-/// The weight 2, with a refutation of smaller weights.
+/// The least weight, 2, with the symbols of a box of this weight, and a refutation of smaller weights.
 fn least(alloc: Global) -> Result<Answer, AllocError> {
     Ok(Answer::Least {
         weight: 2,
@@ -142,7 +145,7 @@ fn least(alloc: Global) -> Result<Answer, AllocError> {
     })
 }
 
-/// The weight 0. There is no refutation, since no weight is smaller.
+/// The least weight, 0, with the symbols of a box of this weight. There is no refutation, since no weight is smaller.
 fn least_of_all(alloc: Global) -> Result<Answer, AllocError> {
     Ok(Answer::Least {
         weight: 0,

@@ -1,5 +1,5 @@
-// Clause lists that are solved, and a refutation that is trimmed. A list is given by signed numbers of variables, with 0 at the
-// end of each clause. A negative number stands for the negation of its variable.
+// Clause lists that are solved, and a refutation that is trimmed: the steps that it does not use are left out. A list is given
+// by signed numbers of variables, with 0 at the end of each clause. A negative number stands for the negation of its variable.
 use dd_clause::{Clause, Cnf, Literal, satisfies};
 use dd_derivation::{Marks, Outcome, Step, check_refutation};
 use dd_elimination::{solve_propagated, solve_reduced};

@@ -1,4 +1,5 @@
-//! The values of small circuits.
+//! The values of small circuits. The variables of a circuit are its inputs, numbered from 1, and then its gates. A signal is a
+//! variable or its negation.
 ghost use Rattle.std.specs.Prelude.{◌≡◌, ◌≤◌, ◌+◌, IfOk};
 ghost use Rattle.dd_circuit.specs.Circuits.{signal_of, opposite, size};
 

@@ -29,7 +29,7 @@ enum Call {
 }
 
 /// The numerator and the denominator of the result. `Over` divides the numerators of the operands. The other calls do what
-/// their names say.
+/// their names say. `None` if the divisor is 0, or if a number that is computed on the way is too large.
 fn answer(call: Call, left: &Fraction, right: &Fraction) -> Option<(i128, i128)> {
     let result = match call {
         Call::Over => Fraction::new(left.num(), right.num()),
@@ -102,7 +102,8 @@ const DIFFERENCES: &[(Pair, Pair, Pair, Option<Pair>)] = &[
     ((7, 6), (1, 2), (1, 3), Some((1, 1))),
     ((5, 7), (-2, 3), (1, 5), Some((89, 105))),
     ((1, 6), (1, 2), (1, 3), Some((0, 1))),
-    // The least numerator of 16 bits, and in the second row denominators near the greatest of 16 bits.
+    // Fractions of 16-bit numbers have a faster method. Here are the least numerator of 16 bits, and in the second row
+    // denominators near the greatest of 16 bits.
     (
         (-32768, 1),
         (-32768, 1),
@@ -118,6 +119,7 @@ const DIFFERENCES: &[(Pair, Pair, Pair, Option<Pair>)] = &[
     // One more than fits in 16 bits.
     ((32768, 1), (1, 1), (1, 1), Some((32767, 1))),
     ((1, 65536), (1, 65536), (1, 1), Some((0, 1))),
+    // Numbers of nearly 128 bits.
     ((-P126, 1), (P63, 1), (P63, 2), Some((-P126 - P126 / 2, 1))),
     ((MAX, 1), (P63, 1), (P63, 1), Some((MAX - P126, 1))),
     // 2^127 - 1 less 2^127 fits, but the product 2^127 does not.

@@ -1,5 +1,5 @@
-//! Tests of single crates, one module for each crate. Their tables have cases whose results were worked out by hand or by a
-//! reference implementation.
+//! Tests of single crates, one module for each crate. The tables of the modules have cases whose results were worked out by
+//! hand or by a reference implementation.
 #![tactic(auto)]
 
 #[cfg(test)]

@@ -1,4 +1,6 @@
-//! Symbols of periodic configurations and of fillings, and the order of periods and shears.
+//! Symbols of periodic configurations and of fillings, and the order of periods and shears. A periodic configuration repeats a
+//! box, which has the periods as its sides. With a shear, each copy of the box lies to the right of the one below it, by the
+//! shear.
 ghost use Rattle.std.specs.Prelude.{◌≡◌, IfSome};
 
 use dd_lattice::{Cell, Position, in_order};

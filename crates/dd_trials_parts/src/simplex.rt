@@ -1,5 +1,7 @@
-//! Small linear programs. The variables of a program are its columns, and column 0 is maximised. The results were worked out by
-//! a reference implementation with exact fractions, and by trying all vertices.
+//! Small linear programs. The variables of a program are its columns, which are at least 0. A row says that the sum of its
+//! coefficients times the columns is at most its bound. The cap is a bound on column 0, which is maximised. An answer has the
+//! greatest value, the columns at which it is taken, and the duals: factors for the cap and the rows that show that no value is
+//! greater. The results were worked out by a reference implementation with exact fractions, and by trying all vertices.
 use dd_fraction::Fraction;
 use dd_simplex::{Program, SimplexFault, Solved, maximise};
 use std::alloc::{AllocError, Global};
@@ -29,7 +31,8 @@ fn fractions(alloc: Global, text: &str) -> Result<Vec<Fraction>, Fail> {
     Ok(numbers)
 }
 
-/// The program with these rows, which are separated by `;`. Each row has its coefficients and then its bound.
+/// The program with this cap and these rows, which are separated by `;`. Each row has its coefficients and then its bound.
+/// Empty rows are left out.
 fn program_of(alloc: Global, columns: u32, cap: i64, rows: &str) -> Result<Program, Fail> {
     if columns == 0 || cap < 0 {
         return Err("no column, or a cap below 0".into());
@@ -376,8 +379,10 @@ const CASES: &[(&str, u32, i64, &str, u32, &str)] = &[
         6,
         "Overflow",
     ),
-    // The objective is column 0. So the line of the objective in the dictionary has the same numbers as the line of column 0,
-    // which is computed first. In the next six cases no line but these two has a number that is too large.
+    // The dictionary writes the objective and some of the variables in terms of the others, on a line each. The costs are the
+    // coefficients of the objective. The objective is column 0. So, once column 0 has a line, the line of the objective in the
+    // dictionary has the same numbers as the line of column 0. That line is computed first. In the next six cases no line but
+    // these two has a number that is too large.
     (
         "first past 2^127: the product in the value, 9 * 2^124",
         2,

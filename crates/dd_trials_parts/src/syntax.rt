@@ -127,6 +127,9 @@ fn written(alloc: Global, pieces: &[(&[u8], u32)]) -> Result<Vec<u8>, Fail> {
     Ok(text)
 }
 
+// The depth of a formula is at most 64. An atom, such as `o=1`, has depth 0. Each `!`, quantifier, pair of parentheses and sign
+// is one deeper than its deepest part. All the `&` of a chain count as one sign, and so do all its `|`. Each row has the pieces
+// of a text, each with how often it is repeated, and the number of the faulty command, if there is one.
 #[test]
 fn depth_has_a_limit(rt: HostRuntime) -> Result<(), Fail> {
     let start: (&[u8], u32) = (b"%rule a ", 1);

@@ -21,7 +21,7 @@ fn text_of(alloc: Global, cells: &[Cell]) -> Result<String, AllocError> {
     Ok(text)
 }
 
-/// The ball around a cell of this node at the origin.
+/// The ball of this radius around the cell of this node at the origin, in the topology of this kind.
 fn ball_of(alloc: Global, kind: Kind, node: u32, radius: u32) -> Result<Vec<Cell>, Fail> {
     let topology = Topology::builtin(alloc, kind)?;
     let position = ORIGIN;
@@ -74,7 +74,7 @@ fn balls_are_those_drawn_by_hand(rt: HostRuntime) -> Result<(), Fail> {
     Ok(())
 }
 
-/// A kind, a radius, and the number of cells of the ball.
+/// A kind, a radius, and the number of cells of the ball around a cell of node 0.
 const COUNTS: &[(Kind, u32, usize)] = &[
     (Kind::King, 3, 49),
     (Kind::Triangle, 3, 37),

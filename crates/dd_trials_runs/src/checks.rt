@@ -16,8 +16,8 @@ pub(crate) const OUTPUT: &str =
 // The answer in this output.
 const ANSWER: &str = "query 1 YES 0\nrefutation 1\nstep 0 6 3 4 2 0 0\n";
 
-// Each row of these tables alters the output. It has a part of the output that occurs only once, the replacement for this part,
-// the status with which the check ends, and what the check writes.
+// Each row of these tables alters the output, except for the first row of `ANSWERS`. A row has a part of the output that occurs
+// only once, the replacement for this part, the status with which the check ends, and what the check writes.
 
 // Texts with a wrong line, with a line too few or with a line too many. Each text is refused at an offset: the length of its
 // longest prefix that begins some output.
@@ -61,6 +61,7 @@ const LINES: [(&str, &str, Status, &str); 16] = [
         Status::Refused,
         "refused at 99\n",
     ),
+    // The line of a step ends after its third 0.
     ("2 0 0", "2 0 0 0", Status::Refused, "refused at 98\n"),
     // The output ends with `end` and a line feed. Nothing may follow.
     ("end\n", "end", Status::Refused, "refused at 102\n"),
@@ -163,7 +164,7 @@ const SCRIPTS: [(&str, &str, Status, &str); 9] = [
     ),
 ];
 
-// Other radii, and steps with other hints and deletes. Some of these steps refute the clauses, and others don't.
+// Other radii, and steps with other clauses, hints or deletes. Some of these steps refute the clauses, and others don't.
 const STEPS: [(&str, &str, Status, &str); 13] = [
     ("YES 0", "YES 5", Status::Rejected, "query 1 rejected\n"),
     ("YES 0", "YES 9", Status::Rejected, "query 1 rejected\n"),
@@ -293,7 +294,7 @@ fn assert_check(
     Ok(())
 }
 
-// Asserts the same for the output with each of these changes.
+// Alters the output as each row says. Asserts the status and the text with which the check of the altered output ends.
 fn assert_changes(
     rt: &impl Abort,
     alloc: Global,

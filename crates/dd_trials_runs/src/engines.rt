@@ -1,4 +1,4 @@
-//! Rosters of engines for runs. Most of the engines are bad.
+//! Rosters of engines for runs. They have engines of the program, and fake engines, most of which make wrong proposals.
 ghost use Rattle.std.specs.Prelude.{false};
 
 use crate::runs::words_of;
@@ -16,7 +16,7 @@ use std::alloc::{AllocError, Global};
 pub enum Habit {
     /// Nothing.
     Silent,
-    /// A refutation without steps, which is always wrong.
+    /// A refutation without steps. It is always wrong, since the last step of a refutation has to have the empty clause.
     NoSteps,
     /// The assignment in which all variables are false.
     AllFalse,
@@ -26,7 +26,7 @@ pub enum Habit {
     ChangesItsMind,
     /// By turns: nothing, a right answer, and a refutation without steps.
     ByTurns,
-    /// A refutation without steps for a list of clauses of exactly this size, and otherwise nothing.
+    /// A refutation without steps for a list with exactly these numbers of variables and clauses, and otherwise nothing.
     OfSize { variables: u32, clauses: usize },
 }
 
@@ -134,7 +134,8 @@ pub const NO_ENGINES: &[Member] = &[];
 /// The engines of the program.
 pub const OF_PROGRAM: &[Member] = &[Member::Propagator, Member::Walker(10_000)];
 
-/// The status of a session with this word, this input and these engines, and how many engines are left after it.
+/// The status of a session with these words, which are separated by single blanks, this input and these engines; and how many
+/// engines are left after it. The sink then holds what was written.
 pub fn session_over(
     alloc: Global,
     word: &str,

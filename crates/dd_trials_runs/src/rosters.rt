@@ -1,5 +1,5 @@
-// Runs with rosters of engines, most of them bad. The first lines of the answers are the same over every roster, and engines that
-// are found wrong are dropped.
+// Runs with rosters of engines, most of which make wrong proposals. The first lines of the answers are the same over every
+// roster, and engines that are found wrong are dropped.
 use crate::engines::{Habit, Member, OF_PROGRAM, session_over};
 use crate::runs::{first_lines, run_over};
 use dd_outside::MemorySink;
@@ -21,7 +21,7 @@ const BY_TURNS: Member = Member::Fake(Habit::ByTurns);
 // The first box that is tried suffices: no symbols in it both obey `hard` and break `row` at the origin. So the answer is YES.
 const YES: &str = "%rule hard o=1 -> (o.rt=0 & o.up=0) %rule row o=1 -> o.rt=0 %contains row hard";
 
-// No box suffices. After the boxes, tori are tried, until one has a configuration that shows the answer NO.
+// No box suffices. After the boxes, periods are tried, until a configuration with these periods shows the answer NO.
 const NO: &str = "%rule hard o=1 -> (o.rt=0 & o.up=0) %rule row o=1 -> o.rt=0 %contains hard row";
 
 // The box of radius 3 suffices, and no smaller one does.
@@ -99,10 +99,11 @@ fn an_engine_runs_out_of_memory(rt: HostRuntime) -> Result<(), Fail> {
     Ok(())
 }
 
-// Each row is about the box of one radius, from 0 to 4. It has the numbers of variables and clauses in the box's list of clauses,
-// and how many engines are left. The engine gives a wrong refutation of a list of this size, and proposes nothing for any other
-// list. So it is found wrong exactly when it is asked about the list of this box. The search asks about the radii 0 to 3, and
-// the engine is given the lists of these boxes as they are.
+// Each row is about the box of one radius, from 0 to 4. It has the numbers of variables and clauses in the box's list of
+// clauses, and how many engines are left after the run. The roster has one engine. It gives a wrong refutation of a list of
+// this size, and proposes nothing for any other list. So it is found wrong exactly when it is asked about the list of this box.
+// The search asks about the radii 0 to 3, and the engine is given the lists of these boxes as they are, before any variable is
+// eliminated.
 #[test]
 fn engines_are_asked_for_the_boxes_themselves(rt: HostRuntime) -> Result<(), Fail> {
     let alloc = rt.alloc();

@@ -29,7 +29,7 @@ pub struct Ran {
     pub left: usize,
 }
 
-/// A run over these bytes with these engines.
+/// How a run over these bytes with these engines ended. Its sink can hold 1,000,000 bytes.
 pub fn run_over(alloc: Global, bytes: &[u8], members: &[Member]) -> Result<Ran, AllocError> {
     let mut sink = MemorySink::new(alloc, 1_000_000, 5, Vec::new(alloc))?;
     let (status, left) = session_over(alloc, "run", bytes, members, &mut sink)?;
@@ -47,7 +47,7 @@ pub fn run_on(alloc: Global, bytes: &[u8]) -> Result<(Status, Vec<u8>), AllocErr
     Ok((ran.status, ran.output))
 }
 
-/// The first line of each answer in an output.
+/// The first line of each answer in an output, each with a line feed. Fails if the output is not UTF-8, or if memory runs out.
 pub fn first_lines(alloc: Global, output: Vec<u8>) -> Result<String, Fail> {
     let mut lines = String::new(alloc);
     for line in String::from_utf8(output)?.lines() {

@@ -106,7 +106,7 @@ const SESSIONS: [(Session, u64, &[usize]); 7] = [
 struct Outside {
     // The number of the read that fails, from 1; 0 if none does.
     read: u64,
-    // The same for writes.
+    // The number of the write that fails, from 1; 0 if none does.
     write: u64,
     capacity: usize,
 }

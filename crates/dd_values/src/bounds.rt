@@ -1,4 +1,5 @@
-//! Limits that more than one crate uses.
+//! Limits that more than one crate uses. A box of radius n holds the positions whose coordinates are all from -n to n. On a
+//! torus, positions that differ by a period along an axis count as the same. A pivot is a step of the simplex method.
 
 /// The greatest number of variables in a clause list, and in a circuit, where each input and each gate has a variable.
 pub const MOST_VARIABLES: u64 = 1 << 24;

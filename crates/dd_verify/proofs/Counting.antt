@@ -16,7 +16,7 @@ box_few l x g least n rule askable is le =
     let most = max l.radius least in
     fewer x g most l.period (volume (centred x.dimension n)) (box_up x.dimension n most l.period rule.dimension.0 rule.dimension.1 le) (askable.small least is)
 
--- ---- a YES has no radius below the goal's least radius, and none above both this and the limit, since a goal has only one least radius
+-- ---- the radius of a YES is at least the goal's least radius, of which there is only one, and at most the greater of it and the limit
 
 pub too_near : (l : Limits) (x : LocalRule) (g : GoalOf) (n : ℕ) (steps : List Step) (least : ℕ) → IsLeastRadius g least → n < least → IsYes l x g n steps → ⊥
 too_near l x g n steps least is near told =

@@ -11,7 +11,7 @@ abbrev setting : ℕ → ℕ → ℕ → CommonNumbers
 setting d n s = record { dimension = d; nodes = n; symbols = s }
 
 module _ (x : LocalRule) (t : Tile) (fits : Fits x t) where
-  -- an automaton over the premise's numbers is defined on the configuration, which has the same dimension, nodes and symbols
+  -- an automaton that is well formed over the premise's dimension, nodes and alphabet is defined on the configuration
   pub defined : (f : Automaton) → IsAutomaton (numbers_of x) f → IsDefinedOn f t
   defined f formed = record {
     symbols = x.symbols;
@@ -20,7 +20,8 @@ module _ (x : LocalRule) (t : Tile) (fits : Fits x t) where
     below = fits.symbols;
   }
 
-  -- if the configuration lives in the premise's subshift, a test of the values at the origin decides whether it is a witness of the goal
+  -- If the configuration has allowed symbols and lives in the premise's subshift, a test of whether the automata differ at the origin decides whether
+  -- the configuration is a witness of this goal.
   pub difference_decides : (f g : Automaton) → IsTile t → HasAllowed x t → Lives x t → (b : Bool) → (b ≡ true) ↔ DifferAtOrigin f g t →
       (b ≡ true) ↔ IsWitness x (differ (numbers_of x) f g) t
   difference_decides f g tile allowed lives b told = (

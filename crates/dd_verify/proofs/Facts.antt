@@ -1,4 +1,5 @@
--- The claim of a certificate for a box question or a conjugacy is true if the facts about the question's goals hold.
+-- The claim of a certificate for a box question or a conjugacy is true if the question is sound (its parts fit together, and it exceeds no limit) and
+-- the facts about its goals hold.
 use Rattle.dd_values.specs.declared.limits.Limits.{Limits}
 use Rattle.dd_certificate.specs.declared.answer.Answer.{Answer}
 use Rattle.dd_question.specs.Questions.{Asked, IsSoundAsked}

@@ -1,4 +1,4 @@
--- A rule is false exactly where the cells that it reads show a listed pattern.
+-- Where the cells that a rule reads have allowed symbols, the rule is false exactly when these symbols are a listed pattern.
 use Rattle.std.proofs.Common.{◌≡◌, ℕ, zero, suc, ◌<◌, Bool, true, false, List, [], ◌∷◌, map, length, get_or, slice_get, Some, None, refl, ap, sym, ◌∙◌, arith, rules}
 use Rattle.std.proofs.lemmas.{Option.slice_get_within, Option.slice_get-get_or, List.length-map}
 use Rattle.std.proofs.lemmas.{List.Sums.list_all-from_AllPass, Cmp.tied_itself}

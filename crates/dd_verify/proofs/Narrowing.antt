@@ -1,9 +1,9 @@
--- Symbols as numbers of 32 bits.
+-- The symbols of an answer, copied one by one to a list of 32-bit numbers.
 use Rattle.std.proofs.Common.{◌≡◌, ℕ, ◌<◌, ◌≤◌, List, length, take, get_or, ◌∙◌, arith}
 use Rattle.std.proofs.lemmas.List.{take_all, Elements.All-from_get_or}
 use Rattle.std.specs.List.{All}
 
--- the list consists of the first i symbols, each below `size`
+-- after i symbols: the list consists of the first i symbols, and each of these is below `size`
 pub record IsNarrowed (symbols : List ℕ) (size i : ℕ) (list : List ℕ) : Type 0 where
   pub read : list ≡ take i symbols
   pub below : (k : ℕ) → k < i → get_or symbols k 0 < size

@@ -1,4 +1,4 @@
--- Certificates for conjugacies: the answers to the four questions, and that an output can hold them.
+-- Certificates for conjugacies: what they contain, that an output can hold them, and that their claims are true.
 use Rattle.std.proofs.Common.{◌≡◌, ◌≢◌, ℕ, zero, suc, ◌-◌, Bool, true, false, List, [], ◌∷◌, length, slice_get, Some, None, refl, ap, sym, subst, ◌∙◌, arith}
 use Rattle.std.proofs.lemmas.{Bool.false≢true, List.Elements.All-nil, List.Elements.All-cons}
 use Rattle.std.specs.{Prelude.◌↔◌, Prelude.slice_index_or, List.All}
@@ -50,7 +50,7 @@ module _ (l : Limits) (c : ConjugacyOf) (limits : AreLimits l) (sound : EachPart
   pub broken_fits : IsNo l x g along shear symbols → IsWritable (answer.Broken k along shear symbols)
   broken_fits no_of = ((is.0, part_within c k x g is), no_writable l x g along shear symbols limits (of_part (IsSoundBox l) c k x g sound is).0 no_of side.Whole)
 
-  -- the answer is a NO to the question with the number k
+  -- the question with the number k has the premise x and the goal g, so a NO to it is a NO for these two
   pub no_taken : BrokenAt l c k along shear symbols → IsNo l x g along shear symbols
   no_taken told =
       let same : (told.0, told.1) ≡ (x, g) = cc (told.2.1, is.1) in
@@ -73,7 +73,7 @@ all_four : {A : Type 0} (P : A → Type 0) (a b e f : A) → P a → P b → P e
 all_four P a b e f one two three last =
     All-cons P a (b ∷ e ∷ f ∷ []) one (All-cons P b (e ∷ f ∷ []) two (All-cons P e (f ∷ []) three (All-cons P f [] last (All-nil P))))
 
--- the radius and the steps with the index k, from 0, certify a YES
+-- the radius and the steps with the index k certify a YES; indices start at 0
 abbrev pub IsYesAt : Limits → List ℕ → List (List Step) → ℕ → LocalRule → GoalOf → Type 0
 IsYesAt l radii steps k x g = IsYes l x g (slice_index_or radii k 0) (slice_index_or steps k [])
 
@@ -111,7 +111,8 @@ module _ (l : Limits) (c : ConjugacyOf) (limits : AreLimits l) (sound : EachPart
     subst (All IsWritableRefutation) (sym (four steps [] told.steps_four)) (all_four IsWritableRefutation _ _ _ _ one two three last),
   )
 
-  -- if the first three questions are answered YES, a test of the fourth YES decides whether the answer is a certificate that an output can hold
+  -- If the first three questions are answered YES with steps that an output can hold, a test of the fourth YES decides whether the answer is a
+  -- certificate that an output can hold.
   pub each_decides : length radii ≡ 4 → length steps ≡ 4 → IsYesAt l radii steps 0 c.from c.image → IsFitAt steps 0 → IsYesAt l radii steps 1 c.to c.image_back → IsFitAt steps 1 →
       IsYesAt l radii steps 2 c.from c.round → IsFitAt steps 2 → (b : Bool) → (b ≡ true) ↔ IsYesAt l radii steps 3 c.to c.round_back → (b ≡ true → IsFitAt steps 3) →
       (b ≡ true) ↔ (IsWritable (answer.Conjugate radii steps) × IsConjugacyCertificate l c (answer.Conjugate radii steps))
@@ -121,7 +122,7 @@ module _ (l : Limits) (c : ConjugacyOf) (limits : AreLimits l) (sound : EachPart
     λ both. last.1 (each_of both.1).round_back,
   )
 
--- if every certificate passes a test, and the test fails, the answer is no certificate
+-- if every certificate passes the test b, and the answer fails it, `false` is the right result: the answer is no certificate
 pub lacking : (b : Bool) (P W C : Type 0) → (b ≡ true) ↔ P → b ≡ false → (C → P) → (false ≡ true) ↔ (W × C)
 lacking b P W C told fails taken = nothing_holds (W × C) (λ both. false≢true (sym fails ∙ told.1 (taken both.1)))
 

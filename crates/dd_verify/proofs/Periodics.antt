@@ -1,4 +1,4 @@
--- What the symbols of a fundamental box (the box that repeats) say about the truth of a rule at the origin.
+-- A periodic configuration gives a symbol to each cell that a rule reads at the origin.
 use Rattle.std.proofs.Common.{◌≡◌, ℕ, ◌<◌, Bool, ap, sym, subst, ◌∙◌, Some, None}
 use Rattle.std.specs.Prelude.{Option, cond}
 use Rattle.dd_lattice.specs.Cells.{cell}
@@ -7,7 +7,7 @@ use Rattle.dd_formula.specs.LocalRule.{LocalRule, IsRule, is_true, is_given}
 use Rattle.dd_formula.specs.{Living.Fits, lemmas.Reached.box_given}
 use Rattle.dd_boxes.specs.Boxes.{origin}
 
--- all cells that the rule reads at the origin have symbols, so the call for the rule's truth there gives an answer
+-- all cells that the rule reads at the origin have symbols, so the call for the rule's truth there answers with this truth, not with `None`
 pub origin_told : (r : LocalRule) (t : Tile) (a : ℕ) (answer : Option Bool) → IsRule r → Fits r t → IsPeriodic t → a < r.nodes →
     answer ≡ cond (is_given r (cell origin a) (tile_look t)) (Some (is_true r (cell origin a) (tile_look t))) None →
     answer ≡ Some (is_true r (cell origin a) (tile_look t))

@@ -35,7 +35,8 @@ module _ (d n : ℕ) (xs place : List ℤ) (few : d ≤ length xs) where
   place_whole z many last front =
       split z many ∙ (ap (λ f. f ++ get_or place d z ∷ []) front ∙ ap (λ l. take d xs ++ l ∷ []) last)
 
--- if c is the first cell at which the rule is false, the place of c is the only right one
+-- if c is the first cell of the fundamental box at which the rule is false, a test of whether `place` is the place of c decides whether OUT with
+-- `place` is right
 pub outside_at : (x : LocalRule) (t : Tile) (c : Cell) (d : ℕ) (place : List ℤ) (b : Bool) → d ≡ x.dimension → IsFirstFalse x t c →
     (b ≡ true) ↔ (place ≡ written_cell d c) → (b ≡ true) ↔ IsOutside x t place
 outside_at x t c d place b same first told = (

@@ -1,4 +1,5 @@
--- The claim of the list of the minimal patterns of a rule is true.
+-- The claim of the minimal lists of a rule is true. A minimal list has minimal patterns of one node, which together forbid what the rule forbids
+-- there.
 use Rattle.std.proofs.Common.{◌≡◌, ℕ, ◌<◌, Bool, true, false, List, [], Some, None, refl, ap, sym, ◌∙◌}
 use Rattle.std.proofs.lemmas.{Bool.false≢true, Bool.Decides.Decides-eqb, Slice.Eq.slice_eq-Decides}
 use Rattle.std.specs.{Prelude.◌↔◌, Prelude.Option, Prelude.nat_eq, List.All, Bool.Decides, Option.option_eq, Cmp.Lexicographic.pointwise}
@@ -10,7 +11,7 @@ use Rattle.dd_evidence.specs.{Lists.starred, Lists.IsStarredList, Lists.patterns
 use Rattle.dd_verify.specs.Holding.{TellsCovered, SayMinimal, MinimalClaim, says_minimal}
 use Rattle.dd_verify.proofs.Listing.{says_kept}
 
--- the laws of the list of minimal patterns of one node
+-- the laws of the minimal list of one node
 abbrev AreExact : Type 0
 AreExact = (r : LocalRule) (a : ℕ) (ps : List (List (Option ℕ))) (ss : List ℕ) → IsRule r → IsMinimalList r a ps → are_allowed r (cells_at r a) ss ≡ true →
     (is_true_at_origin r a ss ≡ false) ↔ (is_covered ps ss ≡ true)
@@ -21,7 +22,7 @@ AreNeeded = (r : LocalRule) (a : ℕ) (ps : List (List (Option ℕ))) → IsRule
 abbrev AllAreNew : Type 0
 AllAreNew = (r : LocalRule) (a : ℕ) (ps : List (List (Option ℕ))) → IsMinimalList r a ps → AreNew r a [] ps
 
--- the laws of the list of minimal patterns of all nodes
+-- the laws of the minimal lists of all nodes, written node by node
 abbrev HaveNodes : Type 0
 HaveNodes = (x : LocalRule) (patterns : List Starred) → IsStarredList x patterns → All (λ p. p.node < x.nodes) patterns
 

@@ -1,5 +1,5 @@
--- Answers about the least weight on a torus: their configurations, how many clauses their steps refute, that an output can hold
--- them, and what they claim.
+-- Answers about the least weight on a torus: their configurations, how many clauses their steps refute, that an output can hold them, and that their
+-- claims are true.
 use Rattle.std.proofs.Common.{◌≡◌, ◌≢◌, ℕ, suc, ◌*◌, ◌<◌, ◌≤◌, Bool, true, List, [], ◌∷◌, length, inl, inr, refl, ap, sym, subst, ◌∙◌, arith}
 use Rattle.std.proofs.lemmas.Nat.{mul-le}
 use Rattle.std.specs.{Prelude.◌↔◌, List.All}
@@ -34,7 +34,7 @@ IsOnTorus x along symbols = IsTile (torus_tile x along symbols) × Fits x (torus
 pub fits_torus : (x : LocalRule) (along symbols : List ℕ) → All (λ s. s < x.symbols) symbols → Fits x (torus_tile x along symbols)
 fits_torus x along symbols below = record { dimension = refl; nodes = refl; symbols = below }
 
--- this configuration has few enough symbols
+-- the configuration that the symbols give on the torus has few enough symbols for code to hold
 pub torus_small : (x : LocalRule) (along symbols : List ℕ) → AreTorusPeriods x.dimension x.nodes (periods_of along 0) → IsTile (torus_tile x along symbols) → IsPeriodic (torus_tile x along symbols)
 torus_small x along symbols torus is =
     record { tile = is; small = (let full = is.full in let few = torus.few in omega (arith, full, few)) }
@@ -42,7 +42,7 @@ torus_small x along symbols torus is =
 pub on_torus_of : {x : LocalRule} {along ws : List ℕ} {w : ℕ} {symbols : List ℕ} → HasWeight x along ws w symbols → IsOnTorus x along symbols
 on_torus_of told = (told.lives.tile, told.lives.fits)
 
--- a test of the configuration decides whether it lives in the rule's subshift and weighs w
+-- if the symbols give the configuration t, a test of t decides whether `HasWeight` holds for these symbols and w
 pub weight_decides : (x : LocalRule) (along ws : List ℕ) (w : ℕ) (symbols : List ℕ) (t : Tile) (b : Bool) → t ≡ torus_tile x along symbols →
     (b ≡ true) ↔ (IsWitness x always t × (total_weight ws t.symbols ≡ w)) → (b ≡ true) ↔ HasWeight x along ws w symbols
 weight_decides x along ws w symbols t b is told = (

@@ -26,12 +26,12 @@ not_written b A B told fails = (λ h. absurd (false≢true h), λ both. absurd (
 pub written : {E : Type 0} (r : Result Bool E) (A B : Type 0) → A → IfOk r (λ b. (b ≡ true) ↔ B) → IfOk r (λ b. (b ≡ true) ↔ (A × B))
 written r A B a told = IfOk-weaker r (λ b. (b ≡ true) ↔ B) (λ b. (b ≡ true) ↔ (A × B)) (λ b is. (λ h. (a, is.0 h), λ both. is.1 both.1)) told
 
--- if the statement A holds, and the test b can be false only where A doesn't hold, then b is true
+-- if the statement A holds, and the test b can be false only if A doesn't hold, then b is true
 told_so : (b : Bool) (A : Type 0) → (b ≡ false → A → ⊥) → A → b ≡ true
 told_so true A refuted a = refl
 told_so false A refuted a = absurd (refuted refl a)
 
--- a test that is true only where a statement holds, and false only where it doesn't, decides the statement
+-- a test that is true only if a statement holds, and false only if it doesn't, decides the statement
 pub decided_so : {E : Type 0} (r : Result Bool E) (A : Type 0) → IfOk r (λ b. b ≡ true → A) → IfOk r (λ b. b ≡ false → A → ⊥) → IfOk r (λ b. (b ≡ true) ↔ A)
 decided_so r A shown refuted =
     if_ok_both r (λ b. b ≡ true → A) (λ b. b ≡ false → A → ⊥) (λ b. (b ≡ true) ↔ A) (λ b here never. (here, told_so b A never)) shown refuted

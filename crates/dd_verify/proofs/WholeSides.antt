@@ -1,5 +1,5 @@
--- A lower bound on what admissible fillings weigh on a box also holds for each configuration that obeys the rule. The grown box consists of all
--- positions within reach of the box.
+-- A lower bound on what each admissible filling of a grown box weighs on the box also holds for each configuration that obeys the rule. The grown box
+-- consists of the positions of Z^d that are at most e away from the box along each axis.
 use Rattle.std.proofs.Common.{◌≡◌, ◌<◌, ◌≤◌, ◌+◌, ◌*◌, ◌^◌, ℕ, Bool, true, false, List, length, refl, ap, ◌∙◌, arith, None}
 use Rattle.std.proofs.lemmas.Bool.{and_parts, and_from, cond_both, lt-ltb, ltb-true}
 use Rattle.std.proofs.{lemmas.Bool.Decides.Decides-int_eq, lemmas.Int.ints, Math.Nat.mul-le-mul}
@@ -52,7 +52,7 @@ at_grown d n e u p some flat at =
     let on_z = run_near (is_active d 2) n e at.k u.z p.z at.k_below (ap (λ (q : Place). q.z) at.is) parts.1 in
     and_from _ _ (and_from _ _ on_x on_y) on_z
 
--- ---- the part of a configuration within reach of the box
+-- ---- the part of a configuration in the grown box
 
 as_much : (a b : ℕ) → a ≡ b → a ≤ b
 as_much a b same = omega (arith, same)

@@ -1,4 +1,5 @@
--- An output can hold the places, the radii and the configurations of certificates: their numbers are small enough.
+-- An output can hold the places, the radii and the configurations of certificates: their numbers are small enough, and their lists have lengths that
+-- an output allows.
 use Rattle.std.proofs.Common.{◌≡◌, ℕ, zero, suc, ◌*◌, ◌≤◌, ◌<◌, List, length, get_or, arith, ℤ, inl, inr}
 use Rattle.std.proofs.lemmas.{Bool.cases_lt, Nat.mul-le, List.Elements.All-from_get_or}
 use Rattle.std.specs.List.{All}
@@ -22,7 +23,7 @@ module _ (fit : (x : LocalRule) (t : Tile) (place : List ℤ) → IsRule x → I
   member_writable a (member_inside h) = tt
   member_writable a (member_outside {place = place} h) = fit x t place rule periodic fits h
 
--- ---- radii: the least radius of a goal is small
+-- ---- radii: the limit on radii and the least radius of a goal are small
 
 pub radius_writable : (l : Limits) (x : LocalRule) (g : GoalOf) (n : ℕ) (steps : List Step) → AreLimits l → IsRule x → KeepsRule g → IsGoalFor x g → IsYes l x g n steps → IsWritableNumber n
 radius_writable l x g n steps limits rule kept ok told =

@@ -16,34 +16,37 @@ use Rattle.dd_certificate.specs.declared.answer.{Reason.Reason, Answer.Answer}
 use Rattle.dd_certificate.specs.declared.answer.Reason.TheVariants as reason
 use Rattle.dd_certificate.specs.declared.answer.Answer.TheVariants as answer
 
--- Least densities. A strip has periods along y and z, listed by `strip`, and no end along x. A slice of it lies at one value of x. A state of
--- the strip's transfer graph consists of consecutive slices, and has an edge for each slice that may follow it. `ws` lists the weights of the
--- symbols. A certificate has a closed walk through this graph, and potentials (a number for each state) which show that no closed walk has a smaller
--- mean weight. Or it has ranks (a number for each state, which falls along each edge). They show that there is no closed walk, and so no
--- configuration on the strip.
+-- Least densities. A strip has periods along y and z, listed by `strip`, and no end along x. A configuration lives on the strip if it has allowed
+-- symbols, these two periods, any period along x and no shear, and obeys the rule. `ws` lists the weights of the symbols, and the density of a
+-- configuration is its weight per position. A slice consists of the strip's cells with one value of x. A state of the strip's transfer graph is a
+-- filling of consecutive slices. It has an edge for each filling of the next slice that may follow it. A certificate for the density p / q has a
+-- closed walk through this graph, and potentials (a number for each state) which show that no closed walk has a smaller mean weight. The mean weight
+-- of the walk, divided by the number of positions in a slice, is p / q. Or a certificate has ranks (a number for each state, which falls along each
+-- edge). They show that there is no closed walk, and so no configuration on the strip.
 pub data IsStripCertificate (x : LocalRule) (strip ws : List ℕ) : Answer → Type 0 where
   strip_least : {p q : ℕ} {cycle : List ℕ} {potentials : List ℤ} → IsDensityCertificate x (strip_for x strip) ws p q cycle potentials →
       IsStripCertificate x strip ws (answer.Density p q cycle potentials)
   strip_empty : {ranks : List ℕ} → IsEmptyCertificate x (strip_for x strip) ranks → IsStripCertificate x strip ws (answer.Empty ranks)
 
--- p / q is the least density of the configurations that live on the strip. m / l is the mean weight of the cycle, in lowest
--- terms. Let k be the number of slices in a state. In an admissible filling of k + j slices, l times the weight of the last j
--- slices is at least m * j - s, where s is the spread of the potentials (the greatest less the least).
+-- p / q is the least density of the configurations that live on the strip. m / l is the mean weight of the cycle, its weight divided by its length,
+-- in lowest terms. Let k be the number of slices in a state. In an admissible filling of k + j slices, l times the weight of the last j slices is at
+-- least m * j - s, where s is the spread of the potentials (the greatest less the least).
 pub record IsLeastOnStrip (x : LocalRule) (strip ws : List ℕ) (p q : ℕ) (cycle : List ℕ) (potentials : List ℤ) : Type 0 where
   pub m : ℕ
   pub l : ℕ
   pub mean : IsInLowestTerms m l (walk_weight x (strip_for x strip) ws cycle) (length cycle)
   pub least : StripLeast x (strip_for x strip) ws p q l m (spread_of potentials)
 
--- What an answer about the least density claims. EMPTY claims that no configuration lives on the strip, and that no admissible filling has more
--- slices than the greatest rank plus the number of slices in a state.
+-- What an answer about the least density claims. DENSITY claims what `IsLeastOnStrip` says. EMPTY claims that no configuration lives on the strip,
+-- and that no admissible filling has more slices than the greatest rank plus the number of slices in a state.
 pub data StripClaim (x : LocalRule) (strip ws : List ℕ) : Answer → Type 0 where
   claims_least : {p q : ℕ} {cycle : List ℕ} {potentials : List ℤ} → IsLeastOnStrip x strip ws p q cycle potentials → StripClaim x strip ws (answer.Density p q cycle potentials)
   claims_empty : {ranks : List ℕ} → StripEmpty x (strip_for x strip) (greatest ranks + state_length x) → StripClaim x strip ws (answer.Empty ranks)
 
--- Discharging. Each position first holds a weight, and then gives amounts along the vectors `vs`. A certificate has amounts with
--- which each position then holds at least the bound, and duals (factors of the rows of a linear program) which show that no
--- amounts do better. Or it is UNKNOWN, with a reason why no bound was found.
+-- Discharging. Each position first holds a weight, and then gives amounts along the vectors `vs`. What a position gives depends on the symbols of the
+-- box of radius `radius` round it. A certificate has amounts with which each position then holds at least the bound, and duals (factors of the rows
+-- of a linear program) which show that no amounts do better. The program is made from the fillings of a finite region, which is enlarged by `margin`
+-- in every direction. Or the answer is UNKNOWN, with a reason why no bound was found.
 pub data IsDischargeCertificate (x : LocalRule) (radius margin : ℕ) (vs : List Place) (ws : List ℕ) : Answer → Type 0 where
   best : {p q n : ℕ} {amounts duals : List ℕ} → IsBoundCertificate x ws radius margin vs (bound_claimed p q n amounts duals) →
       IsDischargeCertificate x radius margin vs ws (answer.Bound p q n amounts duals)

@@ -1,4 +1,5 @@
--- Which answers to questions are certificates, and what they claim.
+-- Which answers to questions are certificates, and what they claim. Below, `along` lists the periods along all axes, `strip` those along y and z,
+-- `ws` the weights of the symbols, and `vs` the vectors of a discharge.
 use Rattle.dd_values.specs.declared.limits.Limits.{Limits}
 use Rattle.dd_certificate.specs.declared.answer.Answer.{Answer}
 use Rattle.dd_question.specs.Questions.{Asked}

@@ -13,9 +13,10 @@ use Rattle.dd_certificate.specs.declared.answer.Side.TheVariants as side
 use Rattle.dd_certificate.specs.declared.answer.Reason.TheVariants as reason
 use Rattle.dd_certificate.specs.declared.answer.Answer.TheVariants as answer
 
--- The goal's least radius is the radius of the smallest box with all cells that the goal reads at the origin. n is at least this least radius, and at
--- most the greater of the least radius and the limit. The steps refute the clauses that ask for an admissible filling of B(n), the box of radius n,
--- with the goal at the origin. (A filling is admissible if the premise is true at each of its cells where all that the premise reads has a symbol.)
+-- The goal's least radius is the radius of the smallest box round the origin with all cells that the goal reads at the origin. n is at least this
+-- least radius, and at most the greater of the least radius and the limit. The steps refute the clauses that ask for an admissible filling of B(n),
+-- the box of radius n round the origin, with the goal at the origin. (A filling is admissible if the premise is true at each of its cells where all
+-- cells that the premise reads have symbols.)
 pub record IsYes (l : Limits) (x : LocalRule) (g : GoalOf) (n : ℕ) (steps : List Step) : Type 0 where
   pub least : ℕ
   pub is_least : IsLeastRadius g least
@@ -23,8 +24,8 @@ pub record IsYes (l : Limits) (x : LocalRule) (g : GoalOf) (n : ℕ) (steps : Li
   pub high : n ≤ max l.radius least
   pub refuting : IsRefuting (box_problem x g n) steps
 
--- There is exactly one period for each axis, from 1 to the limit. The shear is less than the first period, and 0 in one dimension. The configuration
--- has allowed symbols, lives in the premise's subshift and has the goal at the origin.
+-- `along` lists exactly one period for each axis, and each is from 1 to the limit. The shear is less than the first period, and 0 in one dimension.
+-- The configuration has allowed symbols, lives in the premise's subshift and has the goal at the origin.
 pub record IsNo (l : Limits) (x : LocalRule) (g : GoalOf) (along : List ℕ) (shear : ℕ) (symbols : List ℕ) : Type 0 where
   pub as_many : length along ≡ x.dimension
   pub periods : AreWithin x.dimension l.period (given_periods along shear)

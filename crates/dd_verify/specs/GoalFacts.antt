@@ -1,5 +1,6 @@
--- The facts about the goals of a question. If a goal has a rule, this rule is well formed and fits the premise. If a goal has two automata, they fit
--- the premise and read only cells of the lattice, and the gates made for their values compute these values.
+-- The facts about the goals of a question. If a goal has a rule, this rule is well formed, and has the premise's dimension, nodes and alphabet. If a
+-- goal has two automata, they are well formed over the premise's dimension, nodes and alphabet. They read only cells of the lattice, and the gates
+-- made for their values (see dd_compile) compute these values.
 use Rattle.dd_boxes.specs.Goals.{GoalOf}
 use Rattle.dd_formula.specs.LocalRule.{LocalRule}
 use Rattle.dd_problem.specs.pushing.GoalFacts.{HasGoalFacts}

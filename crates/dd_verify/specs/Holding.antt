@@ -24,17 +24,18 @@ pub data MemberClaim (x : LocalRule) (t : Tile) : Answer → Type 0 where
   says_inside : Lives x t → MemberClaim x t answer.Inside
   says_outside : {place : List ℤ} → IsFalseAt x t place → MemberClaim x t (answer.Outside place)
 
--- Box questions. YES, with the radius n, claims that the goal holds nowhere. No configuration that obeys the premise has the goal
--- at any position. No admissible filling has the goal at a position if the filling covers the box of radius n round it. NO claims
--- that the configuration lives in the premise's subshift and has the goal at the origin. UNKNOWN claims nothing.
+-- Box questions. YES, with the radius n, claims that the goal holds nowhere: no configuration that obeys the premise has the goal at any position. It
+-- also claims that the box of radius n round the origin has all cells that the goal reads at the origin, and that no admissible filling has the goal
+-- at a position if it gives a symbol to each cell of the box of radius n round this position. NO claims that the configuration has allowed symbols,
+-- lives in the premise's subshift and has the goal at the origin. UNKNOWN claims nothing.
 pub data BoxClaim (x : LocalRule) (g : GoalOf) : Answer → Type 0 where
   says_nowhere : {n : ℕ} {steps : List Step} → HoldsNowhere x g n → BoxClaim x g (answer.Yes n steps)
   says_witness : {along : List ℕ} {shear : ℕ} {symbols : List ℕ} → IsWitness x g (given_tile x along shear symbols) → BoxClaim x g (answer.No side.Whole along shear symbols)
   says_nothing : {r : Reason} → BoxClaim x g (answer.Unknown r)
 
 -- Equality. YES claims that the goals of both box questions hold nowhere: y is broken nowhere under the premise x, and x is broken nowhere under the
--- premise y. NO names a side. It claims that the configuration lives in the subshift of the rule on this side, and breaks the other rule at the
--- origin. UNKNOWN claims nothing.
+-- premise y. NO names a side, left for x and right for y. It claims that the configuration has allowed symbols, lives in the subshift of the rule on
+-- this side, and breaks the other rule at the origin. UNKNOWN claims nothing.
 pub data EqualClaim (x y : LocalRule) : Answer → Type 0 where
   says_equal : {n m : ℕ} {steps others : List Step} → HoldsNowhere x (breaks y) n → HoldsNowhere y (breaks x) m → EqualClaim x y (answer.YesBoth n m steps others)
   says_left : {along : List ℕ} {shear : ℕ} {symbols : List ℕ} → IsWitness x (breaks y) (given_tile x along shear symbols) → EqualClaim x y (answer.No side.Left along shear symbols)
@@ -42,7 +43,8 @@ pub data EqualClaim (x y : LocalRule) : Answer → Type 0 where
   says_none : {r : Reason} → EqualClaim x y (answer.Unknown r)
 
 -- Conjugacies. CONJUGATE claims that the goal of each of the four box questions holds nowhere. BROKEN names one of these questions. It claims that
--- the configuration lives in the subshift of this question's premise, and has this question's goal at the origin. UNKNOWN claims nothing.
+-- the configuration has allowed symbols, lives in the subshift of this question's premise, and has this question's goal at the origin. UNKNOWN claims
+-- nothing.
 pub data ConjugacyClaim (c : ConjugacyOf) : Answer → Type 0 where
   says_conjugate : {n1 n2 n3 n4 : ℕ} {s1 s2 s3 s4 : List Step} → HoldsNowhere c.from c.image n1 → HoldsNowhere c.to c.image_back n2 → HoldsNowhere c.from c.round n3 →
       HoldsNowhere c.to c.round_back n4 → ConjugacyClaim c (answer.Conjugate (n1 ∷ n2 ∷ n3 ∷ n4 ∷ []) (s1 ∷ s2 ∷ s3 ∷ s4 ∷ []))
@@ -55,7 +57,7 @@ abbrev pub AreReadAt : LocalRule → Look → Place → ℕ → List ℕ → Typ
 AreReadAt x look v a ss = map (λ c. look (shifted v c)) (cells_at x a) ≡ map Some ss
 
 -- Take any position v and any node. If the cells that the rule reads there have allowed symbols, the rule is false there exactly when these symbols
--- are a listed pattern.
+-- are a listed pattern of this node.
 abbrev pub TellsBreaking : LocalRule → List Listed → Type 0
 TellsBreaking x patterns = (look : Look) (v : Place) (a : ℕ) (ss : List ℕ) → a < x.nodes → AreReadAt x look v a ss →
     are_allowed x (cells_at x a) ss ≡ true → (is_true x (cell v a) look ≡ false) ↔ Contains patterns (listed a ss)
@@ -64,13 +66,14 @@ TellsBreaking x patterns = (look : Look) (v : Place) (a : ℕ) (ss : List ℕ) �
 pub data ListClaim (x : LocalRule) : Answer → Type 0 where
   says_list : {patterns : List Listed} → TellsBreaking x patterns → ListClaim x (answer.List patterns)
 
--- Take the node a of any position v. If the cells that the rule reads there have allowed symbols, the rule is false there exactly when these symbols
--- agree with one of the patterns ps.
+-- A pattern in ps has an entry for each cell that the rule reads: a symbol, or none if the pattern leaves the cell out. The symbols of these cells
+-- agree with the pattern if each cell that the pattern keeps has the pattern's symbol. Take the node a of any position v. If the cells that the rule
+-- reads there have allowed symbols, the rule is false there exactly when these symbols agree with one of the patterns.
 abbrev pub TellsCovered : LocalRule → ℕ → List (List (Option ℕ)) → Type 0
 TellsCovered x a ps = (look : Look) (v : Place) (ss : List ℕ) → AreReadAt x look v a ss → are_allowed x (cells_at x a) ss ≡ true →
     (is_true x (cell v a) look ≡ false) ↔ (is_covered ps ss ≡ true)
 
--- what the list ps of the minimal patterns of the node a claims
+-- what a list ps of minimal patterns of the node a claims
 pub record SayMinimal (x : LocalRule) (a : ℕ) (ps : List (List (Option ℕ))) : Type 0 where
   pub tells : TellsCovered x a ps
   -- each cell of a pattern is needed: without it, the pattern would forbid something that the rule allows

@@ -1,6 +1,6 @@
 -- Which answers about the least weight on a torus are certificates, and what they claim. The least weight on a torus is the least weight of the
 -- fundamental box (the box that repeats), over the configurations of allowed symbols with given periods and no shear that live in the rule's
--- subshift. `along` lists the periods, and `ws` the weights of the symbols.
+-- subshift. The box weighs as much as its symbols together. `along` lists the periods, and `ws` the weights of the symbols.
 use Rattle.std.specs.Prelude.{ℕ, ◌≡◌, ◌<◌, List}
 use Rattle.dd_pattern.specs.{Periods.periods_of, Tile.Tile, Tile.tile, Weight.total_weight}
 use Rattle.dd_formula.specs.LocalRule.{LocalRule}
@@ -19,8 +19,8 @@ pub record HasWeight (x : LocalRule) (along ws : List ℕ) (w : ℕ) (symbols : 
   pub lives : IsWitness x always (torus_tile x along symbols)
   pub weighs : total_weight ws symbols ≡ w
 
--- The steps refute the clauses that ask for a configuration in the rule's subshift that weighs less than w. For w = 0 there is
--- nothing to refute.
+-- The steps refute the clauses that ask for a configuration of weight less than w which has these periods and no shear, and lives in the rule's
+-- subshift. For w = 0 there is nothing to refute.
 abbrev pub IsBoundedBy : LocalRule → List ℕ → List ℕ → ℕ → List Step → Type 0
 IsBoundedBy x along ws w steps = 0 < w → IsRefuting (weight_problem x (periods_of along 0) ws w) steps
 
@@ -31,7 +31,8 @@ pub data IsTorusCertificate (x : LocalRule) (along ws : List ℕ) : Answer → T
       IsTorusCertificate x along ws (answer.Least w symbols steps)
   torus_none : {steps : List Step} → IsRefuting (weight_problem x (periods_of along 0) ws 0) steps → IsTorusCertificate x along ws (answer.Nothing steps)
 
--- what an answer claims of all configurations with these periods and no shear that live in the rule's subshift
+-- What an answer claims of all configurations of allowed symbols with these periods and no shear that live in the rule's subshift. LEAST claims that
+-- w is the least of their weights, and NONE that there are no such configurations.
 pub data TorusClaim (x : LocalRule) (along ws : List ℕ) : Answer → Type 0 where
   claims_least_on : {w : ℕ} {symbols : List ℕ} {steps : List Step} → LeastOn x (periods_of along 0) ws w → TorusClaim x along ws (answer.Least w symbols steps)
   claims_none_on : {steps : List Step} → NoneOn x (periods_of along 0) → TorusClaim x along ws (answer.Nothing steps)

@@ -1,5 +1,6 @@
-//! The check of answers to box questions and to equality questions. An equality question asks whether two rules allow the same
-//! configurations; it is two box questions.
+//! The check of answers to box questions and to equality questions. An equality question asks whether the same configurations
+//! obey two rules, `left` and `right`. It is two box questions: whether no configuration that obeys `left` breaks `right` at
+//! any position, and whether none that obeys `right` breaks `left`.
 ghost use Rattle.std.specs.Prelude.{◌≡◌, ◌↔◌, IsTrue, IfOk};
 ghost use Rattle.dd_boxes.specs.Goals.{breaks};
 ghost use Rattle.dd_boxes.specs.Views.{goal_of};

@@ -24,7 +24,8 @@ use std::alloc::{AllocError, Global};
 /// The number of box questions that make up a conjugacy.
 const PARTS: usize = 4;
 
-/// Whether the radius and the steps with the index `number` certify a YES to the box question. Indices start at 0.
+/// Whether the radius and the steps with the index `number` certify a YES to the box question. If so, an output can hold the
+/// steps. Indices start at 0.
 fn check_at(
     alloc: Global,
     premise: &Rule,

@@ -1,8 +1,9 @@
 //! The check of answers about the least density of a strip. A strip has periods along y and z, and no end along x. A
-//! configuration lives on the strip if it has allowed symbols, these periods and no shear, and obeys the rule. The density of a
-//! configuration is its weight per position. The certificate is a cycle (a closed walk through the transfer graph of the strip)
-//! and a number for each state of the graph, its potential. If no configuration lives on the strip, the certificate instead has
-//! a rank for each state, a number that falls along each edge.
+//! configuration lives on the strip if it has allowed symbols, these two periods, any period along x and no shear, and obeys
+//! the rule. Each symbol has a weight, and the density of a configuration is its weight per position. A certificate has a cycle
+//! of the least density (a closed walk through the strip's transfer graph, see `dd_transfer`) and a number for each state of
+//! the graph, its potential. The potentials show that no cycle has a lower density. If no configuration lives on the strip, the
+//! certificate instead has a rank for each state, a number that falls along each edge.
 ghost use Rattle.std.specs.Prelude.{◌↔◌, IsTrue, IfOk};
 ghost use Rattle.dd_strip.specs.Strips.{strip_for};
 ghost use Rattle.dd_transfer.specs.Certificates.{IsDensityCertificate, IsEmptyCertificate};
@@ -36,7 +37,8 @@ fn is_writable(numerator: u64, denominator: u64, cycle: &[u64], potentials: &[i6
     is_signed_list(potentials)
 }
 
-/// Whether the cycle and the potentials show that this is the least density, and an output can hold all these numbers.
+/// Whether the cycle and the potentials show that the least density is `numerator / denominator`, a fraction in lowest terms,
+/// and an output can hold all these numbers.
 fn is_least(
     alloc: Global,
     rule: &Rule,

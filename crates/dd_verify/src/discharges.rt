@@ -1,6 +1,9 @@
-//! The check of answers about the best bound of a discharge. In a discharge, each position first holds its weight, and then
-//! gives amounts along given vectors. The bound is a lower bound for what each position holds afterwards. It is the best if no
-//! other amounts give a greater bound.
+//! The check of answers about the best bound of a discharge. In a discharge, each position first holds its weight. Then, along
+//! each vector of a list, it gives an amount to the position at the vector's end. The amount depends on the vector and on the
+//! symbols of the box of a given radius around the position that gives. A bound is a number such that each position holds at
+//! least this number in the end. It is the best if no other amounts give a greater bound. A certificate has the bound, the
+//! amounts, and duals: factors of the rows of a linear program, which show that the bound is the best. The program is made from
+//! the fillings of a finite region. The margin says by how much this region is enlarged in every direction.
 ghost use Rattle.std.specs.Prelude.{◌≡◌, ◌↔◌, ◌⊎◌, IsTrue, IfOk};
 ghost use Rattle.dd_certificate.specs.declared.answer.Answer.TheVariants as answer;
 ghost use Rattle.dd_certificate.specs.Bounds.{IsWritable};
@@ -16,7 +19,7 @@ use dd_formula::Rule;
 use dd_lattice::Position;
 use std::alloc::{AllocError, Global};
 
-/// Whether an output can hold the bound.
+/// Whether an output can hold the claimed bound, with its amounts and its duals.
 fn is_writable(claimed: &ClaimedBound) -> bool
     ensures { IsTrue result ↔ IsWritable (answer.Bound claimed.now.numerator claimed.now.denominator claimed.now.common claimed.now.amounts.now claimed.now.duals.now) }
 {
@@ -32,7 +35,7 @@ fn is_writable(claimed: &ClaimedBound) -> bool
     is_list(claimed.duals)
 }
 
-/// Whether the amounts and the duals show that this is the best bound, and an output can hold the claimed bound.
+/// Whether the amounts and the duals of the claimed bound show that it is the best, and an output can hold it.
 fn is_bound(
     alloc: Global,
     rule: &Rule,
@@ -61,7 +64,7 @@ fn is_of_discharge(reason: Reason) -> bool
     matches!(reason, Reason::Large | Reason::Overflow | Reason::Pivots)
 }
 
-/// Whether the answer is a certificate for the best bound of a discharge, and an output can hold it.
+/// Whether the answer is a certificate for the question about the best bound, and an output can hold it.
 #[tactic(auto, using(crate::specs::Bounds::best, crate::specs::Bounds::overflow, crate::specs::Bounds::too_large, crate::specs::Bounds::no_pivots, crate::proofs::Weighing::bound_of))]
 pub(crate) fn check_discharge(
     alloc: Global,

@@ -20,7 +20,7 @@ use dd_sides::bound_holds;
 use dd_strips::{strip_empty, strip_least};
 
 /// Does nothing. Its contract says that the automata of the goal, if it has any, read only cells of the lattice, and that the
-/// gates made for their values compute these values.
+/// gates made for their values (see `dd_compile`) compute these values.
 fn goal_facts(goal: &Goal)
     ensures { (x : LocalRule) → IsGoalFor x (goal_of x goal.now) → KeepsRule (goal_of x goal.now) → HasGoalFacts x (goal_of x goal.now) }
 {
@@ -37,8 +37,9 @@ fn goal_facts(goal: &Goal)
 }
 
 /// Does nothing. Its contract says that the claim of each certificate for the question is true. BOUND, the answer about a
-/// discharge, claims that its bound is the best, and that it holds for boxes of every side length at every position: a box
-/// weighs at least the number of its positions times the bound, less what the box may receive from outside in the discharge.
+/// discharge, claims that its bound is the best, and that it holds for boxes of every side length at every position: in each
+/// configuration that obeys the rule, a box weighs at least the number of its positions times the bound, less what the box may
+/// receive from outside in the discharge.
 pub fn claims_hold(question: &CheckedQuestion)
     ensures { (answer : AnyAnswer) → IsCertificateOf question.now.limits question.now.question answer → ClaimOf question.now.question answer }
 {
@@ -72,8 +73,9 @@ pub fn claims_hold(question: &CheckedQuestion)
     }
 }
 
-/// Does nothing. Its contract says the same as that of `claims_hold`, for every sound box question and every sound conjugacy
-/// for which `HaveGoalFacts` holds. The function itself takes no question and no goals.
+/// Does nothing. Its contract says that the claim of each certificate is true, for every box question and every conjugacy that
+/// is sound and for which `HaveGoalFacts` holds. A question is sound if its parts fit together and it exceeds no limit on its
+/// work. Unlike `claims_hold`, the function takes no question.
 pub fn claims_hold_for_goals()
     ensures { (l : AnyLimits) (k : Asked) (answer : AnyAnswer) → IsSoundAsked l k → HaveGoalFacts k → IsCertificateOf l k answer → ClaimOf k answer }
 {}

@@ -1,6 +1,6 @@
-//! The check of a list of forbidden patterns. Such a pattern gives an allowed symbol to each cell that the rule reads at a
-//! node, and with these symbols the rule is false there. The list goes node by node. At each node, the patterns are in
-//! lexicographic order.
+//! The check of the list of all patterns that a rule forbids. Such a pattern gives an allowed symbol to each cell that the rule
+//! reads at a node, and with these symbols the rule is false there. The list goes node by node. At each node, the patterns are
+//! in lexicographic order.
 ghost use Rattle.std.specs.Prelude.{◌≡◌, ◌↔◌, IsTrue, IfOk};
 ghost use Rattle.dd_certificate.specs.Bounds.{IsWritable};
 ghost use Rattle.dd_question.specs.Lists.{HasFewPatterns};
@@ -51,7 +51,7 @@ pub(crate) fn check_list(alloc: Global, rule: &Rule, answer: &Answer) -> Result<
     requires { HasFewPatterns rule.now }
     ensures { IfOk result (λ accepted. IsTrue accepted ↔ (IsWritable answer.now × IsListCertificate rule.now answer.now)) }
 {
-    // Law: an output can hold the list of the patterns that a rule forbids.
+    // Law: an output can hold this list, since at each node the cells that the rule reads have few enough fillings.
     lists_fit();
     // This call tells the proof what the type guarantees.
     let _nodes = rule.nodes();

@@ -1,7 +1,8 @@
-//! The check of a list of minimal forbidden patterns. Such a pattern gives symbols to some of the cells that the rule reads at
-//! a node, and leaves the others out. The rule is false there whatever allowed symbols the others have, and no further cell can
-//! be left out. Each rule has one list of such patterns (see `dd_minimal`). The list need not have all of them, but those that
-//! it has together forbid exactly what the rule forbids.
+//! The check of the minimal lists of a rule. A pattern gives allowed symbols to some, all or none of the cells that the rule
+//! reads at a node, and leaves the others out. It is forbidden if the rule is false there whatever allowed symbols the others
+//! have. A forbidden pattern is minimal if no further cell can be left out. For each node, `dd_minimal` defines one list of
+//! such patterns, the minimal list. It need not have all minimal patterns, but those that it has together forbid exactly what
+//! the rule forbids at the node. An answer writes the minimal lists node by node.
 ghost use Rattle.std.specs.Prelude.{◌≡◌, ◌↔◌, IsTrue, IfOk};
 ghost use Rattle.dd_certificate.specs.Bounds.{IsWritable};
 ghost use Rattle.dd_question.specs.Lists.{HasFewPatterns};
@@ -35,24 +36,24 @@ fn are_same(left: &[Starred], right: &[Starred]) -> bool
     true
 }
 
-/// Whether these patterns are the rule's list of minimal patterns.
+/// Whether these patterns are the rule's minimal lists, node by node.
 fn is_minimal(alloc: Global, rule: &Rule, patterns: &[Starred]) -> Result<bool, AllocError>
     requires { HasFewPatterns rule.now }
     ensures { IfOk result (λ same. IsTrue same ↔ IsStarredList rule.now patterns.now) }
 {
-    // Law: there is only one list of the minimal patterns of a rule.
+    // Law: there is only one way to write the minimal lists of a rule, node by node.
     one_starred();
     let list = minimal_patterns(alloc, rule)?;
     Ok(are_same(list.as_slice(), patterns))
 }
 
-/// Whether the answer is the list of the minimal patterns of the rule, and an output can hold it.
+/// Whether the answer has the minimal lists of the rule, and an output can hold it.
 #[tactic(auto, using(dd_evidence::specs::Answers::all_minimal))]
 pub(crate) fn check_minimal(alloc: Global, rule: &Rule, answer: &Answer) -> Result<bool, AllocError>
     requires { HasFewPatterns rule.now }
     ensures { IfOk result (λ accepted. IsTrue accepted ↔ (IsWritable answer.now × IsMinimalCertificate rule.now answer.now)) }
 {
-    // Law: an output can hold the list of the minimal patterns of a rule.
+    // Law: an output can hold these lists, since at each node the cells that the rule reads have few enough fillings.
     starred_fit();
     // This call tells the proof what the type guarantees.
     let _nodes = rule.nodes();

@@ -1,5 +1,5 @@
-//! Tests whether an output can hold the numbers of an answer. An output can hold numbers of at most `MOST_NUMBER` in absolute
-//! value.
+//! Tests whether an output can hold the numbers of an answer, other than those in steps. An output can hold such a number if it
+//! is at most `MOST_NUMBER` (2^40) in absolute value.
 ghost use Rattle.std.specs.Prelude.{◌≡◌, ◌≤◌, ◌↔◌, nat_le, unsigned_abs, length, All, IsTrue};
 ghost use Rattle.std.specs.List.{list_all};
 ghost use Rattle.dd_certificate.specs.Bounds.{most_number, IsWritableNumber, IsWritableSigned, IsWritableDenominator, IsWritableList};

@@ -1,5 +1,5 @@
-//! The check of answers about membership. An answer names a cell of Z^d by its place: the d coordinates of its position, and
-//! then its node. Nothing here allocates memory.
+//! The check of answers about membership: whether a configuration lives in a rule's subshift. An answer names a cell of Z^d by
+//! the cell's place: the d coordinates of its position, and then its node. Nothing here allocates memory.
 ghost use Rattle.std.specs.Prelude.{◌≡◌, ◌≤◌, ◌↔◌, [], ◌∷◌, pos, IsTrue};
 ghost use Rattle.dd_formula.specs.Living.{Fits};
 ghost use Rattle.dd_certificate.specs.Bounds.{IsWritable};
@@ -63,7 +63,7 @@ fn is_outside(rule: &Rule, periodic: &Periodic, place: &[i64]) -> bool
 }
 
 /// Whether the answer is right. If the configuration lives in the rule's subshift, a right answer says so. Otherwise a right
-/// answer gives the place of the first cell at which the rule is false.
+/// answer gives the place of the first cell of the fundamental box at which the rule is false.
 #[tactic(auto, using(dd_evidence::specs::Answers::member_outside))]
 fn is_member_certificate(rule: &Rule, periodic: &Periodic, answer: &Answer) -> bool
     requires { Fits rule.now periodic.now }
@@ -76,12 +76,13 @@ fn is_member_certificate(rule: &Rule, periodic: &Periodic, answer: &Answer) -> b
     }
 }
 
-/// Whether the answer is right, and an output can hold it. An output can hold each right answer, so this needs no test.
+/// Whether the answer is right, and an output can hold it. An output can hold each right answer, so only the first condition is
+/// tested.
 pub(crate) fn check_member(rule: &Rule, periodic: &Periodic, answer: &Answer) -> bool
     requires { Fits rule.now periodic.now }
     ensures { IsTrue result ↔ (IsWritable answer.now × IsMemberCertificate rule.now periodic.now answer.now) }
 {
-    // Law: an output can hold the place of the first cell at which a rule is false.
+    // Law: an output can hold the place of the first cell of the fundamental box at which a rule is false.
     places_fit();
     // These calls tell the proof what the types guarantee.
     let _nodes = rule.nodes();

@@ -20,7 +20,7 @@ use dd_problem::box_clauses;
 use dd_values::Limits;
 use std::alloc::{AllocError, Global};
 
-/// Whether the steps refute the clauses of the box of this radius.
+/// Whether the steps refute the clauses of the box of this radius. If they do, an output can hold them.
 fn refutes(
     alloc: Global,
     premise: &Rule,
@@ -34,7 +34,7 @@ fn refutes(
     ensures exact { IfOk result (λ refuted. IsTrue refuted ↔ IsRefuting (box_problem premise.now (goal_of premise.now goal.now) radius) steps.now) }
     ensures writable { IfOk result (λ refuted. IsTrue refuted → IsWritableRefutation steps.now) }
 {
-    // Law: an output can hold a refutation of so few clauses.
+    // Law: an output can hold a refutation if the variables, clauses and steps are few enough, as they are here.
     refutations_fit();
     let cnf = box_clauses(alloc, premise, goal, radius)?;
     // These calls tell the proof what the types guarantee.
@@ -44,9 +44,10 @@ fn refutes(
     Ok(check_refutation(&cnf, steps, &mut marks))
 }
 
-/// Whether the radius is within the limits, and the steps refute the clauses of the box of this radius. The goal's least radius
-/// is the radius of the smallest box with all cells that the goal reads at the origin. The radius must be at least this least
-/// radius, and at most the greater of the least radius and the limit.
+/// Whether the radius is within the limits, and the steps refute the clauses of the box of this radius. If so, an output can
+/// hold the steps. The goal's least radius is the radius of the smallest box round the origin with all cells that the goal
+/// reads at the origin. The radius must be at least this least radius, and at most the greater of the least radius and
+/// `limits.radius`.
 pub(crate) fn check_yes(
     alloc: Global,
     premise: &Rule,

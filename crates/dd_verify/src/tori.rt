@@ -1,7 +1,8 @@
-//! The check of answers about the least weight on a torus. This is the least weight of the fundamental box, over the
-//! configurations of allowed symbols with given periods and no shear that live in a rule's subshift. The least weight is
-//! certified by a configuration of this weight and, unless it is 0, by steps which show that none of these configurations
-//! weighs less. If there are no such configurations, the certificate has steps which show this.
+//! The check of answers about the least weight on a torus. Each symbol has a weight, and a configuration weighs as much as the
+//! symbols of its fundamental box together. The least weight on a torus is the least weight of the configurations that have
+//! allowed symbols, given periods and no shear, and live in a rule's subshift. A certificate has a configuration of this weight
+//! and, unless the weight is 0, steps which show that none of these configurations weighs less. If there are no such
+//! configurations, the certificate has steps which show this.
 ghost use Rattle.std.specs.Prelude.{◌≡◌, ◌≤◌, ◌<◌, ◌↔◌, length, IsTrue, IfOk, MatchOption};
 ghost use Rattle.dd_pattern.specs.Periods.{periods_of};
 ghost use Rattle.dd_pattern.specs.Tile.{IsTile};
@@ -85,8 +86,9 @@ fn has_weight(
     }
 }
 
-/// Whether the steps refute the clauses that ask for a configuration that lives in the rule's subshift. If `below` is at least
-/// 1, the clauses also ask that the configuration weighs less than `below`.
+/// Whether the steps refute certain clauses. These ask for a configuration of allowed symbols that lives in the rule's subshift
+/// and has these periods and no shear. If `below` is at least 1, they also ask that it weighs less than `below`. If the result
+/// is true, an output can hold the steps.
 fn refutes_below(
     alloc: Global,
     rule: &Rule,
@@ -101,7 +103,7 @@ fn refutes_below(
     ensures exact { IfOk result (λ refuted. IsTrue refuted ↔ IsRefuting (weight_problem rule.now (periods_of periods 0) weights.now below) steps.now) }
     ensures writable { IfOk result (λ refuted. IsTrue refuted → IsWritableRefutation steps.now) }
 {
-    // Law: an output can hold a refutation of so few clauses.
+    // Law: an output can hold a refutation if the variables, clauses and steps are few enough, as they are here.
     refutations_fit();
     let cnf = weight_clauses(alloc, rule, periods, weights, below)?;
     // These calls tell the proof what the types guarantee.
@@ -111,8 +113,8 @@ fn refutes_below(
     Ok(check_refutation(&cnf, steps, &mut marks))
 }
 
-/// Whether the steps show that no configuration in the rule's subshift weighs less than `weight`. If `weight` is 0, there must be
-/// no steps.
+/// Whether an output can hold the steps, and they show that `weight` is a lower bound: no configuration that has these periods
+/// and no shear, and lives in the rule's subshift, weighs less. If `weight` is 0, there must be no steps.
 fn bounds(
     alloc: Global,
     rule: &Rule,
@@ -132,7 +134,7 @@ fn bounds(
     refutes_below(alloc, rule, periods, weights, weight, steps)
 }
 
-/// Whether the symbols and the steps show that this is the least weight, and an output can hold them.
+/// Whether the symbols and the steps show that `weight` is the least weight, and an output can hold all three.
 fn is_least(
     alloc: Global,
     rule: &Rule,
@@ -154,7 +156,7 @@ fn is_least(
     bounds(alloc, rule, periods, weights, weight, steps)
 }
 
-/// Whether the answer is a certificate for the least weight, and an output can hold it.
+/// Whether the answer is a certificate for the question about the least weight, and an output can hold it.
 pub(crate) fn check_torus(
     alloc: Global,
     rule: &Rule,

@@ -1,4 +1,5 @@
-//! The check of a NO to a box question: a configuration that lives in the premise's subshift and has the goal at the origin.
+//! The check of a NO to a box question: a configuration of allowed symbols that lives in the premise's subshift and has the
+//! goal at the origin.
 ghost use Rattle.std.specs.Prelude.{◌≡◌, ◌≤◌, ◌<◌, ◌↔◌, length, slice_index_or, All, IsTrue, IfOk, MatchOption};
 ghost use Rattle.dd_pattern.specs.Periods.{AreWithin};
 ghost use Rattle.dd_boxes.specs.Goals.{IsGoalFor};
@@ -26,7 +27,7 @@ fn along(periods: &[u64], axis: usize) -> u64
     }
 }
 
-/// Whether there is exactly one period for each axis, from 1 to `most`, and the shear is less than the first period. In one
+/// Whether there are exactly `dim` periods, each from 1 to `most`, and the shear is less than the first period. In one
 /// dimension the shear must be 0.
 fn are_periods(dim: u32, most: u32, periods: &[u64], shear: u64) -> bool
     requires dim { (1 ≤ dim) × (dim ≤ 3) }
@@ -81,7 +82,7 @@ fn given(
     ensures { IfOk result (λ found. MatchOption found (IsGiven premise.now most periods.now shear symbols.now → ⊥)
         (λ periodic. (periodic ≡ given_tile premise.now periods.now shear symbols.now) × IsGiven premise.now most periods.now shear symbols.now)) }
 {
-    // This call tells the proof what the type guarantees.
+    // This call also tells the proof what the type guarantees.
     let nodes = premise.nodes();
     if !are_periods(premise.dim(), most, periods, shear) {
         return Ok(None);
@@ -100,8 +101,8 @@ fn given(
     }
 }
 
-/// Whether the periods are within the limits, and the configuration has allowed symbols, lives in the premise's subshift and has
-/// the goal at the origin.
+/// Whether the periods, the shear and the symbols give a configuration of allowed symbols that lives in the premise's subshift
+/// and has the goal at the origin. Each period must be at most `limits.period`.
 pub(crate) fn check_no(
     alloc: Global,
     premise: &Rule,

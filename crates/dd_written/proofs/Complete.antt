@@ -26,7 +26,7 @@ ends_begins Join.Implies place (Lexeme.Mark Mark.Arrow ∷ tokens) le e = absurd
 ends_begins Join.Iff place (Lexeme.Mark Mark.BothWays ∷ tokens) le e = absurd (omega (arith, le, ltb-true place 4 e))
 ends_begins j place tokens le e = refl
 
--- a sign may follow a formula that binds tighter
+-- a formula at a place tighter than the rank of a sign ends before this sign, and `begins` sees the sign
 sign_there : (j : Join) (place : ℕ) (tokens : List Lexeme) → place < join_rank j → (ends place (Lexeme.Mark (sign j) ∷ tokens) ≡ true) × (begins j (Lexeme.Mark (sign j) ∷ tokens) ≡ true)
 sign_there Join.And place tokens lt = (le-leb (suc place) 1 lt, refl)
 sign_there Join.Or place tokens lt = (le-leb (suc place) 2 lt, refl)
@@ -91,7 +91,7 @@ chain_again j part place f g gs rest each lt none e =
 
 -- ---- places
 
--- a formula that is read at one place is also read at every looser place, if the tokens that follow can't continue it
+-- a formula that is read at one place is also read at every looser place, if the tokens that follow can't continue it there
 looser : (unary : Reader Formula) (tokens : List Lexeme) (f : Formula) (rest : List Lexeme) (low place : ℕ) → low ≤ place → place ≤ 4 → ends place rest ≡ true → level_at unary low tokens ≡ Some (f, rest) → level_at unary place tokens ≡ Some (f, rest)
 looser unary tokens f rest low zero under le e r =
     let same : low ≡ 0 = omega (arith, under) in
@@ -105,15 +105,17 @@ looser unary tokens f rest low (suc place) under le e r = elim (cases_eq low (su
 
 -- ---- formulas
 
--- a formula is read from its text, at each place where it may stand
+-- A formula is read from its text at each place where it may stand. Its depth must be at most the budget, and the tokens that follow must not be able
+-- to continue it there.
 abbrev IsReadAgain : Formula → Type 0
 IsReadAgain f = (budget place : ℕ) (rest : List Lexeme) → place ≤ 4 → stands f place ≡ true → tree_depth f ≤ budget → ends place rest ≡ true → level_at (unary_at budget) place (text f ++ rest) ≡ Some (f, rest)
 
--- the same, stated in terms of the formula's parts
+-- `IsReadAgain` for a formula that is given by its parts
 abbrev IsLayerRead : Formula-F Formula → Type 0
 IsLayerRead x = (budget place : ℕ) (rest : List Lexeme) → place ≤ 4 → stands_step (map-Formula Formula (ℕ → Bool) stands x) place ≡ true → tree_depth_step (map-Formula Formula ℕ tree_depth x) ≤ budget → ends place rest ≡ true
     → level_at (unary_at budget) place (text_step (map-Formula Formula (List Lexeme) text x) ++ rest) ≡ Some (roll-Formula x, rest)
 
+-- a formula that is known to be read from its text
 abbrev Known : Type 0
 Known = (f : Formula) × IsReadAgain f
 
@@ -129,7 +131,7 @@ quantified_again : (budget : ℕ) (q : Quantifier) (variable : Word) (balls : Li
 quantified_again budget q variable [] f rest some inner = absurd (omega (arith, leb-true 1 0 some))
 quantified_again budget q variable (b ∷ balls) f rest some inner = nested_quantifier (unary_at budget) q _ ∙ rw (quantifier_again variable b balls (text f ++ rest), inner) refl
 
--- each part of a chain is read from its text
+-- each part of a chain is read from its text, if all parts may stand at this place, and if the depth that they reach is at most the budget
 parts_again : (budget place : ℕ) (j : Join) (n i : ℕ) (fs : List Known) → place ≤ 4 → list_all (λ (h : ℕ → Bool). h place) (map stands (map formula_of fs)) ≡ true → chain_depth j n i (map tree_depth (map formula_of fs)) ≤ budget
     → AllByRecursion (ReadBy (level_at (unary_at budget) place) place) (map formula_of fs)
 parts_again budget place j n i [] le fit deep = tt

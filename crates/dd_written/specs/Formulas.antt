@@ -45,6 +45,7 @@ abbrev pub separated_by : Mark → List (List Lexeme) → List Lexeme
 separated_by m [] = []
 separated_by m (t ∷ ts) = t ++ flat_map (λ u. Lexeme.Mark m ∷ u) ts
 
+-- the text of a formula, given the texts of its parts; a `Formula-F X` is a formula with an X in place of each part
 abbrev pub text_step : Formula-F (List Lexeme) → List Lexeme
 text_step (Formula-F.Atom a) = atom_text a
 text_step (Formula-F.Not f) = Lexeme.Mark Mark.Not ∷ f
@@ -65,8 +66,8 @@ join_rank Join.Or = 2
 join_rank Join.Implies = 3
 join_rank Join.Iff = 4
 
--- Whether a formula may stand at a place without parentheses. If so, each of its parts may stand at the part's own place, each quantifier has at
--- least one ball, and each chain has at least two parts.
+-- Whether a formula may stand at a place without parentheses, given the same of its parts. Each part must be able to stand at the part's own place.
+-- A quantifier must have at least one ball. A chain must have at least two parts, and it may stand only at the rank of its sign and at looser places.
 abbrev pub stands_step : Formula-F (ℕ → Bool) → ℕ → Bool
 stands_step (Formula-F.Atom a) place = true
 stands_step (Formula-F.Not f) place = f 0
@@ -85,7 +86,7 @@ signs_over Join.Or n i = 1
 signs_over Join.Implies n i = min (i + 1) (n - 1)
 signs_over Join.Iff n i = min (n - i) (n - 1)
 
--- the greatest depth that the parts from part i on reach in a chain of n parts, given the depths of these parts themselves
+-- the greatest depth that the parts from part i on reach in a chain of n parts; the list has their own depths, without the signs above them
 abbrev pub chain_depth : Join → ℕ → ℕ → List ℕ → ℕ
 chain_depth j n i [] = 0
 chain_depth j n i (d ∷ ds) = max (signs_over j n i + d) (chain_depth j n (i + 1) ds)

@@ -12,7 +12,7 @@ abbrev pub name_text : List ℕ → Name → List ℕ
 name_text bytes (Name.Word w) = word_text bytes w
 name_text bytes (Name.Number n) = number_text bytes n
 
--- the value of a number that has these last digits, if the digits before them have the value `value`
+-- the value of a number, given the value of its first digits and the list of its other digits
 abbrev pub decimal : ℕ → List ℕ → ℕ
 decimal value [] = value
 decimal value (digit ∷ digits) = decimal (value * 10 + (digit - 48)) digits

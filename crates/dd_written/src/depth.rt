@@ -1,5 +1,4 @@
-//! The depth of a formula, capped at 65, which is one over the limit. An atom has depth 0. Each `!`, quantifier, pair of
-//! parentheses and sign is one deeper than its deepest part.
+//! The depth of a formula, capped at 65, which is one more than the greatest depth that a formula may have.
 ghost use Rattle.std.specs.Prelude.{◌≡◌, ◌<◌, ◌+◌, length, map};
 ghost use Rattle.dd_written.specs.Formulas.{tree_depth, signs_over, chain_depth, cut_depth};
 
@@ -15,8 +14,9 @@ fn deeper(depth: u32, more: u32) -> u32
     more.saturating_add(depth).min(MOST_DEEP + 1)
 }
 
-/// The number of signs above the part at `index` in the tree of a chain with `count` parts, capped at 65. All the `&` of a chain
-/// count as one sign, and so do all its `|`.
+/// The number of signs above the part at `index` in the tree of a chain with `count` parts, capped at 65. All the `&` of a
+/// chain count as one sign, and so do all its `|`. The other two signs group: `a -> b -> c` is `a -> (b -> c)`, and
+/// `a <-> b <-> c` is `(a <-> b) <-> c`.
 fn signs_over(join: Join, count: usize, index: usize) -> u32
     requires { index < count }
     ensures { result ≡ cut_depth (signs_over join count index) }

@@ -12,7 +12,7 @@ pub(crate) type Read<'a, T> = Result<(T, &'a [Lexeme]), ReadFault>;
 /// Why nothing was read from the tokens.
 #[derive(Debug, Drop, Error)]
 pub enum ReadFault {
-    /// What was to be read can't be read from the front of the tokens.
+    /// The reader can't read its item from the front of the tokens.
     #[error("not well formed")]
     Syntax,
     /// Memory ran out.

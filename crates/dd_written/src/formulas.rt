@@ -15,7 +15,7 @@ use std::alloc::Global;
 /// The name at the front of the tokens, and the tokens after it.
 ///
 /// # Errors
-/// The tokens don't begin with a name.
+/// `Syntax` if the tokens don't begin with a name.
 pub fn read_name(tokens: &[Lexeme]) -> Read<'_, Name>
     ensures { Gives (λ x. (x.0, x.1.now)) result (name_at tokens.now) }
 {

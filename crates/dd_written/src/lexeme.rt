@@ -70,7 +70,7 @@ pub enum Lexeme {
     Negative(Number),
     /// A mark.
     Mark(Mark),
-    /// Stands for the first byte that isn't allowed, as `Tokens` of `dd_tokens` says, and for all bytes after it. It comes last
-    /// in the list of lexemes, and no command contains it.
+    /// Stands for the first byte that isn't allowed, and for all bytes after it. `Tokens` of `dd_tokens` says which bytes
+    /// aren't allowed. `Stray` comes last in the list of lexemes, and no command contains it.
     Stray,
 }

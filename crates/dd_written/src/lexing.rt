@@ -1,4 +1,4 @@
-//! From the bytes of a script to lexemes, the tokens that the grammar reads.
+//! Turns the bytes of a script into lexemes, the tokens that the grammar reads.
 ghost use Rattle.std.specs.Prelude.{◌≡◌, ◌≤◌, ◌+◌, length, map, IfOk};
 ghost use Rattle.std.specs.{Char.is_ascii, List.list_all};
 ghost use Rattle.dd_values.specs.Bounds.{most_script};

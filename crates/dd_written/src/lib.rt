@@ -1,6 +1,11 @@
-//! The grammar of formulas. Bytes are read as lexemes, which are tokens as the grammar sees them. Lexemes are read as syntax
-//! trees. A sign is `&`, `|`, `->` or `<->`, and a chain is two or more formulas with the same sign between them. The text of a
-//! formula is the list of its lexemes.
+//! The grammar of formulas. Bytes are read as lexemes, which are the tokens of a script as the grammar sees them: words,
+//! numbers and marks such as `->`. Lexemes are read as syntax trees. A reader is a function that takes an item from the front
+//! of some tokens, and returns it with the tokens after it.
+//!
+//! A sign is `&`, `|`, `->` or `<->`, and a chain is two or more formulas with the same sign between them. The depth of an
+//! atom, a formula without parts, is 0. Each `!`, quantifier, pair of parentheses and sign is one deeper than its deepest part.
+//! All the `&` of a chain count as one sign, and so do all its `|`. The text of a word or a number is its bytes, but the text
+//! of a formula is the list of its lexemes.
 #![tactic(auto)]
 
 mod depth;

@@ -11,8 +11,8 @@ pub enum Name {
     Number(Number),
 }
 
-/// A word followed by moves, as in `o.rt.up`. Each move is given by the label of its edge. A term stands for the cell to which
-/// the moves lead.
+/// A word followed by moves, as in `o.rt.up`. Each move goes along an edge of the topology, and is given by the edge's label. A
+/// term stands for the cell to which the moves lead.
 #[derive(Debug, Drop)]
 pub struct Term {
     /// A variable. In a `Comparand` it may instead name a symbol.
@@ -51,7 +51,7 @@ pub struct Atom {
     pub relation: Relation,
 }
 
-/// A ball over which a quantifier ranges: its centre and its radius.
+/// A ball over which a quantifier ranges: the variable whose cell is its centre, and its radius.
 #[derive(Clone, Copy, Debug, PartialEq, Eq)]
 pub struct Ball {
     pub centre: Word,

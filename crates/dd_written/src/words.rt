@@ -14,7 +14,7 @@ pub(crate) fn part(bytes: &[u8], start: u32, length: u32) -> &[u8]
     rest.split_at(length).0
 }
 
-/// The bytes of a word.
+/// The bytes of a word, taken from the bytes of the script.
 pub fn word_bytes(bytes: &[u8], word: Word) -> &[u8]
     ensures { result.now ≡ word_text bytes.now word }
 {

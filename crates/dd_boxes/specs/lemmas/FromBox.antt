@@ -26,7 +26,7 @@ cut_at_origin x n look v c h = cut_near x n look origin v c h ∙ ap (λ u. look
 pub box_over : (x : LocalRule) (s : CommonNumbers) (f g : Automaton) (n : ℕ) (c : Cell) → AreOver x s f g → is_cell_within s n c ≡ is_box_cell x n c
 box_over x s f g n c over = rw (over.dimension, over.nodes) refl
 
--- the cut has a symbol at each cell that is read at the origin
+-- if the filling covers the box round v, the cut has a symbol at each cell of the box, and so at each cell that the goal reads at the origin
 cut_has : (x : LocalRule) (n : ℕ) (look : Look) (v : Place) → Covers x n look v → (p : Cell → Bool) → ((c : Cell) → p c ≡ is_box_cell x n c) →
     (ds : List Cell) → list_all p ds ≡ true → list_all (λ c. is_some (cut x n look v (shifted origin c))) ds ≡ true
 cut_has x n look v covers p same ds reach =
@@ -38,7 +38,7 @@ cut_reads : (x y : LocalRule) (n : ℕ) (look : Look) (v : Place) (a : ℕ) → 
     reads_given y (cut x n look v) origin a ≡ true
 cut_reads x y n look v a same node reach covers = cut_has x n look v covers (is_box_cell y n) (λ c. box_alike x y n c same) (reads_at y a) (reach a node)
 
--- two automata whose values differ at v have different values in the cut at the origin
+-- two automata whose values differ at v in the filling have different values at the origin in the cut
 differ_at_origin : (x : LocalRule) (s : CommonNumbers) (f g : Automaton) (n : ℕ) (look : Look) (v : Place) (a : ℕ) → AreOver x s f g → a < s.nodes → Reaches (differ s f g) n →
     Covers x n look v → (value f look (cell v a) ≡ value g look (cell v a) → ⊥) →
     value f (cut x n look v) (cell origin a) ≡ value g (cut x n look v) (cell origin a) → ⊥
@@ -51,7 +51,7 @@ differ_at_origin x s f g n look v a over node reach covers apart same =
     value_keeps g less look origin v a (cut_at_origin x n look v) (has ((counted g).reads a) (reach a node).1) in
     apart (sym left ∙ (same ∙ right))
 
--- a goal that holds at v holds in the cut at the origin
+-- a goal that holds at v in the filling holds at the origin in the cut
 goal_at_origin : (x : LocalRule) (g : GoalOf) (n : ℕ) (look : Look) (v : Place) → IsGoalFor x g → Reaches g n → Covers x n look v → HasGoal g look v →
     HasGoal g (cut x n look v) origin
 goal_at_origin x (breaks y) n look v ok reach covers there = (
@@ -102,7 +102,7 @@ holds_nowhere x g n ok reach suffices =
     let never = never_from_box x g n ok reach suffices in
     record { never = never; configurations = never_in_configuration x g n never; tiles = never_in_tile x g n never }
 
--- each larger box also contains what the goal reads, and also suffices
+-- if a box contains what the goal reads, so does each larger box; if it also suffices, so does each larger box
 pub reaches_more : (g : GoalOf) (n m : ℕ) → n ≤ m → Reaches g n → Reaches g m
 reaches_more (breaks y) n m le reach = λ a node. list_all_weaker (is_box_cell y n) (is_box_cell y m) (λ c h. wider_box y n m c le h) (reads_at y a) (reach a node)
 reaches_more (differ s f g) n m le reach = λ a node.

@@ -16,7 +16,7 @@ use Rattle.dd_boxes.specs.Fillings.{is_up_to, in_box, is_cell_in_box, is_box_cel
 use Rattle.dd_boxes.specs.{Boxes.goal_reach, Boxes.IsLeastRadius, lemmas.RuleLaws.list_all_weaker}
 use Rattle.dd_boxes.specs.lemmas.CutLaws.{box_parts, flat_box}
 
--- a cell of Z^d is in the box of radius k round the origin exactly when it is at most k away from the origin
+-- a cell of Z^d is in the box of radius k round the origin exactly when it is at most k away from the origin along each axis
 flat_near : (active : Bool) (k : ℕ) (x : ℤ) → (active || int_eq x (pos 0)) ≡ true → unsigned_abs x ≤ k → is_up_to (spread active k) x ≡ true
 flat_near true k x h near = le-leb _ _ near
 flat_near false k x h near = let zero_there : x ≡ pos 0 = (Decides-int_eq x (pos 0)).0 h in le-leb _ _ (omega (arith, ints))

@@ -18,7 +18,7 @@ module _ (law : FormulasAreRead) where
   -- ---- cases
 
   module _ (bytes : List ℕ) where
-    -- a wanted word, followed by a name
+    -- a wanted word, followed by a name, is read as it is written
     end_reads : (spelt : List ℕ) → Reads (wanted bytes spelt ▸ name)
     end_reads spelt = then_reads (wanted_reads bytes spelt) (λ y rest is. tt) name_reads
 

@@ -57,7 +57,8 @@ then_reads {X} {Y} {f} {g} is ended are = record {
   last = are.last;
 }
 
--- items that are made from items of another form, and are written as the tokens that `text` gives
+-- if `make` makes items from the items of a form, and these are written as the tokens that `text` gives, `Reads` carries over
+-- to them
 pub text_reads : {X Y : Type 0} {f : Form X} (make : X → Y) (parts : Y → X) (text : Y → List Lexeme) → ((x : X) (rest : List Lexeme) → f.onto x rest ≡ text (make x) ++ rest) → ((y : Y) → make (parts y) ≡ y)
     → ((y : Y) → f.is (parts y)) → ((rest : List Lexeme) → f.ends rest) → Reads f → Reads (by_text text (made make f.item))
 text_reads {X} {Y} {f} make parts text spelt same right free is = record {

@@ -30,7 +30,7 @@ heads = other_heads ++ map Head.Query query_kinds
 abbrev pub kinds : List Kind
 kinds = Kind.Line ∷ Kind.Square ∷ Kind.King ∷ Kind.Triangle ∷ Kind.Hex ∷ Kind.Cube ∷ []
 
--- a word with this spelling
+-- the form of a word with this spelling
 abbrev pub wanted : List ℕ → List ℕ → Form Word
 wanted bytes spelt = such (λ w. word_text bytes w ≡ spelt) (λ w. bytes_eq (word_text bytes w) spelt) word
 
@@ -48,15 +48,15 @@ case_at bytes = made (λ x. record { condition = x.1.0; symbol = x.1.1.1 }) (cas
 abbrev pub automaton_at : List ℕ → Reader (Word × (List Case × (Word × Name)))
 automaton_at bytes = both word_at (both (each_at (case_at bytes)) (wanted bytes (codes "else") ▸ name).item)
 
--- one or more names
+-- the form of one or more names
 abbrev pub names : Form (List Name)
 names = some (map name_lexeme) name_at
 
--- one vector without negative numbers
+-- reads one vector without negative numbers, and gives a list of it alone
 abbrev pub one_plain : Reader (List Vector)
 one_plain = made (λ v. v ∷ []) plain.item
 
--- the vectors at the end of a query
+-- reads the vectors at the end of a query
 abbrev pub lists_at : Lists → Reader (List Vector)
 lists_at Lists.None tokens = Some ([], tokens)
 lists_at Lists.Strip tokens = one_plain tokens

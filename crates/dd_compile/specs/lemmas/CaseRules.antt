@@ -53,7 +53,8 @@ signals_more n m k more (Some ss) h =
     let both = and_parts (length ss == k) (list_all (is_signal n) ss) h in
     and_from (length ss == k) (list_all (is_signal m) ss) both.0 (list_all-weaker (is_signal n) (is_signal m) (signal_more n m more) ss both.1)
 
--- the cells that a case's rule reads have their signals
+-- If the cells that the rules of the cases read have their signals among the variables 1..n, the cells that the rule of case i reads have them among
+-- 1..m, for each m that is at least n.
 pub case_wired : (n m : ℕ) (w : Wiring) (c : Cases) (at : Cell) (h : AreCasesWired n w c at) (i : ℕ) (case : LocalRule × ℕ) → n ≤ m → i < length c.cases → case ≡ get_or c.cases i case → are_reads_wired m w case.0 at ≡ true
 case_wired n m w c at h i case more below is =
     let s = h.setting in
@@ -260,7 +261,7 @@ value_length k c w at n =
     let second = length-append (r.gates ++ chosen) symbols in
     omega (arith, l, first, second)
 
--- what the last two of the three steps, the choices and the symbols, require
+-- what the last two of the three steps, the choices and the symbols, require, except that the rules' signals are in range
 pub record Asks (k n : ℕ) (rules chosen : List Signal) (xs : List ℕ) (one two : ℕ) : Type 0 where
   pub choose_few : one + length (choices [] rules) ≤ most_variables
   pub as_many : length chosen ≡ length xs
@@ -294,7 +295,7 @@ rules_wired n k w c at h wired = record {
   wired = ap (λ m. are_wired_there n m w (cases_reads c.cases at.node) at) h.all ∙ wired;
 }
 
--- what the gates give after the last step
+-- what holds after the last step, unless memory ran out
 pub record Answer (k : ℕ) (c : Cases) (w : Wiring) (at : Cell) (start new : Network) {T E : Type 0} (items : T → List Signal) (r : Result T E) : Type 0 where
   pub gates : IfOk r (λ _. new.gates ≡ start.gates ++ (given_made k c w at (size start)).gates)
   pub signals : IfOk r (λ v. items v ≡ (given_made k c w at (size start)).signals)

@@ -1,4 +1,5 @@
--- The gates, counts and wires of conjunctions, disjunctions and equivalences, from those of their parts.
+-- Conjunctions, disjunctions and equivalences: their gates, the numbers of their gates and instances, and whether their leaves have their wires, from
+-- those of their parts.
 use Rattle.std.proofs.Common.{◌≡◌, ◌≤◌, ◌<◌, ◌+◌, ◌*◌, ℕ, zero, suc, get_or, Bool, true, List, [], ◌∷◌, ◌++◌, map, length, refl, ap, sym, ◌∙◌, arith}
 use Rattle.std.proofs.lemmas.{Bool.and_parts, Bool.leb-true, Bool.le-leb, List.Folds.list_all-map}
 use Rattle.std.specs.Prelude.{◌&&◌, Option, Some, None, nat_le}
@@ -55,13 +56,13 @@ instances_or fs = ap instances (sym (v.rolls-Or fs)) ∙ fold-roll-Expanded ℕ 
 pub instances_iff : (f g : Expanded) → instances (v.Iff f g) ≡ 1 + (instances f + instances g)
 instances_iff f g = ap instances (sym (v.rolls-Iff f g)) ∙ fold-roll-Expanded ℕ instances_step (Expanded-F.Iff f g)
 
--- a part is no larger than all parts together
+-- a part has at most as many instances as all parts together
 pub instances_at : (es : List Expanded) (i : ℕ) (e : Expanded) → i < length es → e ≡ get_or es i e → instances e ≤ all_instances es
 instances_at [] i e h is = absurd (omega arith)
 instances_at (x ∷ es) zero e h is = let same = ap instances is in omega (arith, same)
 instances_at (x ∷ es) (suc i) e h is = let rest = instances_at es i e (omega arith) is in omega (arith, rest)
 
--- if n ≤ m, a wire whose variable is one of 1..n is also one whose variable is one of 1..m
+-- if n ≤ m and the variable of a wire is one of 1..n, it is also one of 1..m
 wire_more : (n m : ℕ) → n ≤ m → (o : Option Signal) → is_wire n o ≡ true → is_wire m o ≡ true
 wire_more n m more None h = h
 wire_more n m more (Some s) h =

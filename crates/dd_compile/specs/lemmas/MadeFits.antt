@@ -12,7 +12,7 @@ use Rattle.dd_circuit.specs.Circuits.{IsSignal, IsGate, AreGates}
 use Rattle.dd_circuit.specs.lemmas.GateLists.{AreGates-append, AreGates-snoc, IsSignal-more}
 use Rattle.dd_compile.specs.Compiling.{Made, AllMade, Maker, all_made, then_gate, made_step, made}
 
--- the wires of the leaves that pass p are among the first m variables
+-- the wires of the leaves that pass p have variables among 1..m
 abbrev pub Wired : ℕ → (Cell → ℕ → Signal) → (Cell → ℕ → Bool) → Type 0
 Wired m wires p = (c : Cell) (s : ℕ) → p c s ≡ true → IsSignal m (wires c s)
 

@@ -12,7 +12,7 @@ use Rattle.dd_compile.specs.Wiring.{Wiring, signal_for, signals_of}
 use Rattle.dd_compile.specs.Compiling.{is_wire, are_wired, wires_near}
 use Rattle.dd_compile.specs.RuleSignals.{is_signal, are_signals, are_reads_wired}
 
--- what a rule reads at a position of extent at most `most_coordinate - most_reach` is in the range of positions
+-- a cell at most `most_reach` from the origin stays in range when it is moved by v, if v is at least `most_reach` from the border of the range
 pub near_in_range : (v : Place) (d : Cell) → extent v ≤ most_coordinate - most_reach → is_near d ≡ true → is_in_range (moved d.position v) ≡ true
 near_in_range v d inner near =
     let close = leb-true (extent d.position) most_reach near in
@@ -52,7 +52,7 @@ module _ (n : ℕ) (w : Wiring) (r : LocalRule) (rule : IsRule r) (c : Cell) (ex
       let three : leaves_pass (λ d s. signals d s && (near d s && known d s)) e ≡ true = leaves_both e signals (λ d s. near d s && known d s) ∙ and_from _ _ has_all two in
       leaves_weaken e (λ d s. signals d s && (near d s && known d s)) (λ d s. is_wire n (wires_near w c.position d s)) (λ d s. leaf_wired n r.symbols w c.position d s inner) three
 
--- cells near the origin stay in range when they are moved by v, so a test of them needs no test of the range
+-- cells at most `most_reach` from the origin stay in range when they are moved by v, so a test of them needs no test of the range
 in_range_all : (v : Place) → extent v ≤ most_coordinate - most_reach → (test : Cell → Bool) (ds : List Cell) → list_all is_near ds ≡ true →
     list_all (λ d. if is_in_range (moved d.position v) then test d else false) ds ≡ list_all test ds
 in_range_all v inner test [] near = refl
@@ -61,7 +61,7 @@ in_range_all v inner test (d ∷ ds) near =
     let there = near_in_range v d inner both.0 in
     rw there (ap (λ b. test d && b) (in_range_all v inner test ds both.1))
 
--- the same for the cells that a rule reads
+-- the same for the cells that a rule reads: cs lists each of them once, and `reads_at` may list some more often
 pub tested_reads : (r : LocalRule) → IsRule r → (c : Cell) → c.node < r.nodes → extent c.position ≤ most_coordinate - most_reach → (test : Cell → Bool) (cs : List Cell) → cs ≡ cells_at r c.node →
     list_all (λ d. if is_in_range (moved d.position c.position) then test d else false) cs ≡ list_all test (reads_at r c.node)
 tested_reads r rule c exists inner test cs is =

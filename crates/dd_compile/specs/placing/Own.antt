@@ -29,7 +29,8 @@ own_count r a = length (cells_at r a) * r.symbols
 abbrev pub own_made : LocalRule → ℕ → Made
 own_made r a = compiled (own_inputs r a) origin (expansion_at r a) (own_count r a)
 
--- the circuit has exactly the inputs and gates of the template of the rule r at the node a, and s is the signal of these gates
+-- r is a well-formed rule that has the node a, the circuit has exactly the inputs and gates of the template of r at a, and s is the signal of these
+-- gates
 pub record IsTemplate (r : LocalRule) (a : ℕ) (circuit : Network) (s : Signal) : Type 0 where
   pub exists : a < r.nodes
   pub kept : IsRule r

@@ -24,13 +24,14 @@ signals_there w v cs = flat_map (λ d. all_of (signals_of w (shifted v d))) cs
 abbrev pub signed : Bool → Signal → Signal
 signed positive s = if positive then s else opposite s
 
--- the input or its opposite; if there is no input, the variable or its opposite
+-- the input, or the variable if there is no input; its opposite if the truth value `positive` is false
 abbrev pub placed_by : Option Signal → ℕ → Bool → Signal
 placed_by None variable positive = record { variable = variable; positive = positive }
 placed_by (Some input) variable positive = signed positive input
 
--- The signal that replaces a signal of a template. The template's first variables, which are its inputs, are replaced, in order,
--- by the signals `inputs`. The later variables are replaced, in order, by the variables n + 1, n + 2 and so on.
+-- The signal that replaces a signal of a template. The template's first variables, which are its inputs, are replaced, in order, by the signals
+-- `inputs`. The later variables are replaced, in order, by the variables n + 1, n + 2 and so on. The opposite of a variable is replaced by the
+-- opposite of the signal that replaces the variable.
 abbrev pub placed : List Signal → ℕ → Signal → Signal
 placed inputs n s = placed_by (slice_get inputs (s.variable - 1)) (n + (s.variable - length inputs)) s.positive
 

@@ -5,7 +5,7 @@ use Rattle.std.proofs.lemmas.Bool.Decides.{nat_tests}
 use Rattle.std.specs.{Prelude.◌&&◌, Prelude.◌||◌, Prelude.◌-◌, Prelude.◌==◌, Prelude.nat_lt, List.list_any, List.range_with_len}
 use Rattle.dd_values.specs.lemmas.Booleans.{or_false}
 
--- a range that begins above c has no number that passes both tests, as only c passes the first one
+-- if a range begins above c, no number s in it satisfies both c == s and f s
 none_of_range : (f : ℕ → Bool) (c k a : ℕ) → c < a → list_any (λ s. (c == s) && f s) (range_with_len a k) ≡ false
 none_of_range f c zero a h = refl
 none_of_range f c (suc k) a h = rw (ne_eqb c a (λ e. omega arith)) (none_of_range f c k (a + 1) (omega arith))
@@ -22,7 +22,7 @@ one_of_range f c (suc k) a low high = go (c == a) refl (λ above. one_of_range f
 lt_less : (t w total : ℕ) → w ≤ t → nat_lt (t - w) total ≡ nat_lt t (total + w)
 lt_less t w total h = grind (arith, nat_tests)
 
--- a number is below total + w exactly when it is below w, or its excess over w is below total
+-- t is below total + w exactly when it is below w or t - w is below total; where w is at most t, b is the truth value of the latter
 pub lt_sum : (t w total : ℕ) (b : Bool) → (w ≤ t → b ≡ nat_lt (t - w) total) → (nat_lt t w || b) ≡ nat_lt t (total + w)
 lt_sum t w total b rest = go (nat_lt t w) refl where
   go : (c : Bool) → nat_lt t w ≡ c → (c || b) ≡ nat_lt t (total + w)

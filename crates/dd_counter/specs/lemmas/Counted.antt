@@ -1,4 +1,4 @@
--- How many gates the counter has, and how much a configuration weighs at most.
+-- Upper bounds on the number of gates of the counter, and on the weight of a configuration.
 use Rattle.std.proofs.Common.{ℕ, zero, suc, ◌+◌, ◌*◌, ◌≤◌, Bool, true, false, List, [], ◌∷◌, map, length, arith, Some, None, length-append}
 use Rattle.std.proofs.lemmas.{Nat.mul-le, List.Sums.sum_by-cons}
 use Rattle.std.specs.{Prelude.◌-◌, Prelude.nat_lt, Prelude.Option, Prelude.slice_get, Prelude.slice_index, List.range_with_len}
@@ -49,7 +49,7 @@ weight_most ws (s ∷ ss) =
     let more = weight_most ws ss in
     omega (arith, e, one, more)
 
--- with a smaller bound on the weight, `weight_count` is no greater
+-- if `weight_count` is within a limit for some bound on the weight, it is within the limit for each smaller bound
 pub count_less : (x : LocalRule) (p : Periods) (ws : List ℕ) (below more most : ℕ) → below ≤ more → weight_count x p ws more ≤ most → weight_count x p ws below ≤ most
 count_less x p ws below more most h room =
     let cells = periods_volume p * x.nodes in

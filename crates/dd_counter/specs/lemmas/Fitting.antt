@@ -1,4 +1,4 @@
--- Each gate of the counter uses only variables that come before it.
+-- Each gate of the counter uses only variables that come before its own.
 use Rattle.std.proofs.Common.{◌≡◌, ℕ, zero, suc, ◌+◌, ◌*◌, ◌<◌, ◌≤◌, Bool, true, false, List, [], ◌∷◌, ◌++◌, map, length, refl, arith, Some, None, length-append}
 use Rattle.std.proofs.lemmas.{List.Elements.All-nil, List.Elements.All-cons, List.Elements.All-append, Nat.mul-add-lt}
 use Rattle.std.proofs.lemmas.Option.{slice_get_within, get_or_from_slice_get}
@@ -10,7 +10,7 @@ use Rattle.dd_compile.specs.{Compiling.AllMade, lemmas.CaseGates.opposites_in_ra
 use Rattle.dd_problem.specs.Clauses.{input}
 use Rattle.dd_counter.specs.Counter.{Making, making, joined, member_by, member, of_symbol, members, count, row, rows}
 
--- the gates come after n variables, and the signals are over these variables and those of the gates
+-- each gate is over the first n variables and those of the gates before it, and the signals are over the first n variables and those of all gates
 pub record Fits (n : ℕ) (made : AllMade) : Type 0 where
   pub gates : AreGates n made.gates
   pub signals : All (IsSignal (n + length made.gates)) made.signals

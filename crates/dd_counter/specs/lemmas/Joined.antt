@@ -1,4 +1,4 @@
--- What the gates of joined makings say.
+-- What the signals of joined makings say under an assignment that gives each gate's variable the gate's value.
 use Rattle.std.proofs.Common.{◌≡◌, ℕ, zero, suc, ◌+◌, ◌<◌, arith, Bool, true, List, [], ◌∷◌, ◌++◌, map, length, refl, sym, ◌∙◌}
 use Rattle.std.proofs.lemmas.{Bool.and_parts, List.map-append}
 use Rattle.std.specs.{Prelude.◌||◌, List.list_any, List.range_with_len}

@@ -1,4 +1,4 @@
--- The loops that make the counter.
+-- The loops that make the counter: what they have made, and what is left to be made.
 use Rattle.std.proofs.Common.{◌≡◌, ℕ, suc, ◌+◌, ◌<◌, ◌≤◌, List, [], ◌∷◌, ◌++◌, map, length, ap, sym, subst, ◌∙◌, arith, length-append, append_assoc}
 use Rattle.std.proofs.lemmas.{Bool.le-ltb, List.append-nil, List.Elements.All-push, List.Elements.All-weaker}
 use Rattle.std.specs.{Prelude.◌-◌, Prelude.false, Prelude.Some, Prelude.None, Prelude.slice_get, List.All, List.range_with_len}
@@ -19,7 +19,8 @@ grown-append cnf gs hs =
 pub grown-nil : (cnf : ClauseList) → grown cnf [] ≡ cnf
 grown-nil cnf = same_list (grown cnf []) cnf.variables cnf.clauses (omega arith) (append-nil cnf.clauses)
 
--- what the loop has made so far, followed by what it makes for the numbers from w on, is the whole
+-- The loop began with the clause list `start`. What it has made so far, `now` and `signals`, followed by what is left to be made for the numbers from
+-- w to end - 1, is the whole. The signals so far are over the variables of `now`, which include those of `start`.
 pub record Left (make : ℕ → Making) (w end : ℕ) (start now : ClauseList) (signals : List Signal) : Type 0 where
   pub clauses : grown now (joined (map make (range_to w end)) now.variables).gates ≡ grown start (joined (map make (range_with_len 0 end)) start.variables).gates
   pub made : signals ++ (joined (map make (range_to w end)) now.variables).signals ≡ (joined (map make (range_with_len 0 end)) start.variables).signals
@@ -60,7 +61,7 @@ left_ends make w end start now signals left past =
       sym (append-nil signals) ∙ (ap (λ r. signals ++ (joined (map make r) now.variables).signals) (sym none) ∙ left.made),
     )
 
--- what is made next is a part of the whole, so there is room for it
+-- what is made next is a part of the whole, so its variables are within the bound that holds for the whole
 pub left_few : (make : ℕ → Making) (w end : ℕ) (start now : ClauseList) (signals : List Signal) (most : ℕ) → Left make w end start now signals → w < end →
     (grown start (joined (map make (range_with_len 0 end)) start.variables).gates).variables ≤ most → (grown now (make w now.variables).gates).variables ≤ most
 left_few make w end start now signals most left within few =
@@ -71,7 +72,8 @@ left_few make w end start now signals most left within few =
     let e = length-append first.gates rest.gates in
     omega (arith, all, e, few)
 
--- like `Left`, for the loop over rows
+-- Like `Left`, for the loop over the rows of the cells, before the row of the cell k is made. The loop keeps only one row of signals: `before`, the
+-- last one made. The signals of the whole are those of the last row of all.
 pub record RowsLeft (ws : List ℕ) (below k end : ℕ) (start now : ClauseList) (before : List Signal) : Type 0 where
   pub clauses : grown now (rows ws below (end - k) k before now.variables).gates ≡ grown start (rows ws below end 0 [] start.variables).gates
   pub made : (rows ws below (end - k) k before now.variables).signals ≡ (rows ws below end 0 [] start.variables).signals
@@ -113,7 +115,7 @@ pub member_some : (from : Signal) (w t : ℕ) (before : List Signal) (n : ℕ) (
     member from w t before n ≡ making (signal_of (suc n) ∷ []) (And (from ∷ r ∷ []) ∷ [])
 member_some from w t before n r h is = ap (λ b. member_by from b (slice_get before (t - w)) n) (le-ltb t w h) ∙ ap (λ o. member_by from false o n) is
 
--- after the gates of the members, the Or gate over the members is added
+-- the gates of the members are added to `start`, and then the Or gate over their signals; together these are the gates of `count`
 pub with_or : (start now new : ClauseList) (each : AllMade) (signals : List Signal) → now ≡ grown start each.gates → signals ≡ each.signals → new ≡ grown now (Or signals ∷ []) →
     new ≡ grown start (each.gates ++ Or each.signals ∷ [])
 with_or start now new each signals is same pushed =

@@ -54,7 +54,7 @@ least_shown x p ws w t steps lives weighs none some refuted = record {
   empty = λ zero. absurd (omega (arith, some, zero));
 }
 
--- `least_refuted` and `none_lives` again, without the assumption `ShowsWeights`, which holds for each rule
+-- `least_refuted` and `none_lives` again; their assumption `ShowsWeights` follows here from `weight_shows`
 module _ (x : LocalRule) (p : Periods) (ws : List ℕ) (rule : IsRule x) (ok : AreTorusPeriods x.dimension x.nodes p) (same : length ws ≡ x.symbols) where
   pub least_claimed : (w : ℕ) (t : Tile) (steps : List Step) → IsLiving x p t → total_weight ws t.symbols ≡ w → (0 < w → IsRefuting (weight_problem x p ws w) steps) → LeastOn x p ws w
   least_claimed w t steps lives weighs refuting = least_refuted x p ws w t steps lives weighs (λ _. weight_shows x p ws w rule ok same) refuting
@@ -62,12 +62,13 @@ module _ (x : LocalRule) (p : Periods) (ws : List ℕ) (rule : IsRule x) (ok : A
   pub none_claimed : (steps : List Step) → IsRefuting (weight_problem x p ws 0) steps → NoneOn x p
   none_claimed steps refuting = none_lives x p ws steps (weight_shows x p ws 0 rule ok same) refuting
 
--- there is at most one least weight, and none if there is no living configuration
+-- there is at most one least weight
 pub least_unique : (x : LocalRule) (p : Periods) (ws : List ℕ) (v w : ℕ) → LeastOn x p ws v → LeastOn x p ws w → v ≡ w
 least_unique x p ws v w one two =
     let here = two.least one.some.0 one.some.1 in
     let there = one.least two.some.0 two.some.1 in
     omega (arith, here, there, one.some.2, two.some.2)
 
+-- there is no least weight if there is no living configuration
 pub none_or_least : (x : LocalRule) (p : Periods) (ws : List ℕ) (w : ℕ) → NoneOn x p → LeastOn x p ws w → ⊥
 none_or_least x p ws w none least = none least.some.0 least.some.1

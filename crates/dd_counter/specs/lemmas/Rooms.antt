@@ -1,5 +1,5 @@
--- Facts about the cells of a torus and about a living configuration: its symbols have weights, and the clauses that ask for less than its weight are
--- few enough.
+-- Facts about tori and living configurations. A torus has at least one cell. Each symbol of a living configuration has a weight. If `weight_count` is
+-- within a limit for the number of cells times the greatest weight of a symbol, it is within this limit for the weight of each living configuration.
 use Rattle.std.proofs.Common.{◌≡◌, ℕ, ◌*◌, ◌<◌, ◌≤◌, List, length, ap, sym, subst, arith}
 use Rattle.std.proofs.lemmas.Nat.{mul-le}
 use Rattle.std.specs.List.{All}

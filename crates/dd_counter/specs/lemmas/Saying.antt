@@ -53,10 +53,11 @@ pub record Weighs (set : ℕ → Bool) (ws ss : List ℕ) : Type 0 where
 abbrev pub weight_to : List ℕ → List ℕ → ℕ → ℕ
 weight_to ws ss k = total_weight ws (take k ss)
 
+-- whether the cells up to and including this one weigh more than t if this cell has the symbol s; `before` is the row of the cell before
 abbrev passes : (ℕ → Bool) → List ℕ → List Signal → ℕ → ℕ → Bool
 passes set ws before t s = nat_lt t (slice_index ws s) || said set before (t - slice_index ws s)
 
--- of the tests of all symbols, only that of the cell's symbol counts
+-- the input of the cell k and the symbol s is true exactly when s is the cell's symbol, so a comparison with this symbol can replace the input
 read_any : (set : ℕ → Bool) (ws ss : List ℕ) (k : ℕ) (f : ℕ → Bool) → Weighs set ws ss → k < length ss →
     (c a : ℕ) → a + c ≡ length ws →
     list_any (λ s. set (input (length ws) k s) && f s) (range_with_len a c) ≡ list_any (λ s. (get_or ss k 0 == s) && f s) (range_with_len a c)
@@ -99,7 +100,7 @@ rows_say set ws ss below (suc c) k before n ok end says h =
     let both = agrees_parts set n first.gates rest.gates h in
     rows_say set ws ss below c (k + 1) first.signals (n + length first.gates) ok (omega arith) (row_says set ws ss below k before n ok (omega arith) says both.0) both.1
 
--- the signals of the last row say how much all cells weigh; the first cell has no row before it
+-- the signals of the last row say how much all cells together weigh; the first row is over an empty row
 pub all_say : (set : ℕ → Bool) (ws ss : List ℕ) (below n : ℕ) → Weighs set ws ss → agrees set n (rows ws below (length ss) 0 [] n).gates ≡ true →
     SaysWeight set below (rows ws below (length ss) 0 [] n).signals (total_weight ws ss)
 all_say set ws ss below n ok h = rows_say set ws ss below (length ss) 0 [] n ok (omega arith) (λ t small. sym (le-ltb t 0 (omega arith))) h

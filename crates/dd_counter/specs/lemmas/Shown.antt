@@ -1,4 +1,4 @@
--- The clauses with the counter are satisfied exactly by the living configurations that are light.
+-- The assignments that satisfy the clauses with the counter stand for exactly the living configurations that are light.
 use Rattle.std.proofs.Common.{◌≡◌, ℕ, zero, suc, ◌+◌, ◌*◌, ◌<◌, ◌≤◌, Bool, true, false, List, [], ◌++◌, length, refl, ap, sym, subst, ◌∙◌, arith, Some, None}
 use Rattle.std.proofs.lemmas.Bool.{and_parts, and_from, ltb-false, le-ltb}
 use Rattle.std.proofs.lemmas.List.{Folds.list_all-append, Elements.All-nil}

@@ -30,7 +30,7 @@ all_length ws below (suc c) n some =
     let first = row ws below 0 [] n in
     rows_length ws below c 1 first.signals (n + length first.gates) (row_length ws below 0 [] n)
 
--- the last clause says that the last signal is false; this signal says that all cells together weigh at least the bound
+-- there is a last clause, and it says that the last signal is false; this signal says that all cells together weigh at least the bound
 pub unit_there : (ws : List ℕ) (below c n : ℕ) → 0 < c → 0 < below → let signals = (rows ws below c 0 [] n).signals in
     last_refused below signals ≡ (opposing (get_or signals (below - 1) (signal_of 0)) ∷ []) ∷ []
 unit_there ws below c n some bounded =

@@ -1,4 +1,4 @@
--- The clauses of `weight_problem` are satisfied exactly by the living configurations that are light.
+-- The assignments that satisfy the clauses of `weight_problem` stand for exactly the living configurations that are light.
 use Rattle.std.proofs.Common.{◌≡◌, ℕ, ◌*◌, ◌≤◌, List, length, refl, ap, arith, subst, sym}
 use Rattle.dd_pattern.specs.{declared.periods.Periods.Periods, Periods.periods_volume}
 use Rattle.dd_formula.specs.LocalRule.{LocalRule, IsRule}

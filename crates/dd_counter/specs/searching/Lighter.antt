@@ -6,7 +6,8 @@ use Rattle.dd_counter.specs.declared.least.Lighter.{Lighter}
 use Rattle.dd_counter.specs.{declared.least.Lighter.TheVariants.Found, declared.least.Lighter.TheVariants.Nothing, Weights.IsLightWitness}
 use Rattle.dd_counter.specs.Least.{IsRefutedBelow}
 
--- a living configuration that weighs less than `below` (or any if `below` is 0), or steps that refute the clauses that ask for one
+-- The result is right: it is a living configuration that is light, or steps that refute the clauses that ask for one. In the second case there is
+-- none.
 abbrev pub IsLighter : LocalRule → Periods → List ℕ → ℕ → Lighter → Type 0
 IsLighter x p ws below (Found t) = IsLightWitness x p ws below t
 IsLighter x p ws below (Nothing steps) = ((t : Tile) → IsLightWitness x p ws below t → ⊥) × IsRefutedBelow x p ws below steps

@@ -8,7 +8,8 @@ use Rattle.dd_density.specs.declared.answer.Density.{Density}
 use Rattle.dd_density.specs.declared.answer.Density.TheVariants.{Least, Empty}
 use Rattle.dd_meancycle.specs.declared.least.Mean.TheVariants as mean
 
--- the numbers of the mean are small enough for an output, and so are those of the mean divided by `volume`
+-- For the mean m / l, the numbers m and l * volume are small enough for an output, and l * volume isn't 0. These are the terms of the mean divided
+-- by `volume`. If there is no closed walk, nothing is required.
 abbrev pub IsMeanOver : ℕ → Mean → Type 0
 IsMeanOver volume (mean.Least m l cycle ps) = (0 < l * volume) × (l * volume ≤ most_number) × (m ≤ most_number)
 IsMeanOver volume (mean.NoCycle ranks) = Unit {0}

@@ -1,11 +1,12 @@
--- What the marks of a check mean. A variable's mark holds the number of the step that made it, and the sign of the variable's false literal.
+-- What the marks of a check mean. A list `alive` holds a truth value for each clause, which says whether the clause is alive. A variable's mark holds
+-- the number of the step that made it, and the sign of the variable's false literal.
 use Rattle.std.specs.Prelude.{◌≡◌, ℕ, ◌-◌, ◌≤◌, ◌<◌, ◌==◌, Bool, false, ◌&&◌, if◌then◌else◌, List, [], ◌∷◌, ◌++◌, Option, Some, None, unwrap_or, slice_index_or, slice_set, length, All}
 use Rattle.std.specs.{Bool.beq, Option.option_map_or}
 use Rattle.dd_clause.specs.{declared.clause.Literal.Literal, Clauses.negation}
 use Rattle.dd_derivation.specs.declared.{propagation.VariableMark.VariableMark, step.Step.Step}
 use Rattle.dd_derivation.specs.Derivations.{same_literal, is_among, is_literal_in_range, clause_of, clauses_before}
 
--- the clauses by number, with an empty place for each that is not alive
+-- the clauses by number, with an empty place for each that is not alive; clauses past the end of `alive` are left out
 abbrev pub known_of : List (List Literal) → List Bool → List (Option (List Literal))
 known_of [] alive = []
 known_of (c ∷ cs) [] = []
@@ -41,7 +42,7 @@ abbrev pub literals_of : List (Option (List Literal)) → List ℕ → List Lite
 literals_of known [] = []
 literals_of known (h ∷ hints) = unwrap_or (clause_of known h) [] ++ literals_of known hints
 
--- Whether a literal is false. Its variable is out of range, so it has no mark. The variable has no value until a hinted clause contains it. So the
+-- Whether a literal of a variable out of range is false. Such a variable has no mark, and it has no value until a hinted clause contains it. So the
 -- first such clause forces the literal of this variable that it contains. `seen` holds the literals of the clauses hinted so far.
 abbrev pub is_false_unmarked : List Literal → Literal → Bool
 is_false_unmarked seen l = option_map_or (λ m. same_literal l (negation m)) (first_literal_of l.variable seen) false

@@ -60,7 +60,7 @@ marked_same marks step l x r v =
     let i : x.variable - 1 ≡ l.variable - 1 = omega arith in
     rw (i, get_or-set_same marks (l.variable - 1) (record { step = step; positive = l.positive }) (record { step = 0; positive = false }) lt, eq-eqb step step refl) refl
 
--- marking a literal makes it false, and changes no other literal in range
+-- marking a literal in range whose variable has no value makes it false, and changes nothing for other literals in range
 set_more : (marks : List VariableMark) (step : ℕ) (falses : List Literal) (l x : Literal) → is_marked marks step x ≡ is_among falses x → IsLiteralInRange (length marks) x → IsLiteralInRange (length marks) l → is_among falses l ≡ false → is_among falses (negation l) ≡ false → is_marked (set marks (l.variable - 1) (record { step = step; positive = l.positive })) step x ≡ is_among (l ∷ falses) x
 set_more marks step falses l x m i r f g =
     elim (cases_eq x.variable l.variable) [
@@ -88,14 +88,15 @@ marked_more marks step falses l x m i f g = elim (cases_Bool (is_literal_in_rang
   | inr n ↦ rw (n, apart (length marks) x l i n) m
 ]
 
--- after one more literal becomes false, the marks and the hinted clauses still tell which literals are false
+-- Let a literal whose variable has no value become false. If the hinted clauses tell which literals out of range are false, the marks and the hinted
+-- clauses together still tell which literals are false.
 FalsesAre-more : (marks : List VariableMark) (step : ℕ) (seen more falses : List Literal) (l : Literal) → FalsesAre marks step seen falses → is_among falses l ≡ false → is_among falses (negation l) ≡ false → ((x : Literal) → is_literal_in_range (length marks) x ≡ false → is_false_unmarked more x ≡ is_among (l ∷ falses) x) → FalsesAre (with_mark marks step l) step more (l ∷ falses)
 FalsesAre-more marks step seen more falses l a f g out x = elim (cases_Bool (is_literal_in_range (length marks) x)) [
   | inl t ↦ rw (length-marked marks step l, t) (marked_more marks step falses l x (rw t at (a x)) t f g)
   | inr n ↦ rw (length-marked marks step l, n) (out x n)
 ]
 
--- literals added at the end do not change the first literal of a variable
+-- if a list has a literal of the variable, literals added at the end do not change the first one
 first_literal_of-some : (v : ℕ) (xs ys : List Literal) (m : Literal) → first_literal_of v xs ≡ Some m → first_literal_of v (xs ++ ys) ≡ Some m
 first_literal_of-some v [] ys m h = absurd (cc)
 first_literal_of-some v (x ∷ xs) ys m h = elim (cases_Bool (eqb x.variable v)) [
@@ -140,8 +141,8 @@ first_literal_of-more v xs i d lt h n = ap (first_literal_of v) (take_more xs i 
 abbrev pub UnmarkedAre : List Literal → List Literal → ℕ → Type 0
 UnmarkedAre seen falses v = (y : Literal) → y.variable ≡ v → is_false_unmarked seen y ≡ is_among falses y
 
--- A variable out of range has no value until a hinted clause contains it. Its literal in the first such clause is not false, so this is the literal
--- that the clause forces.
+-- If the hinted clauses tell which literals of a variable out of range are false, they still do so after one more clause, which forces a literal. If
+-- this clause is the first with the variable, its literal of the variable is not false, so this is the literal that it forces.
 unmarked_more : (seen falses c : List Literal) (l x : Literal) → UnmarkedAre seen falses x.variable → Forces (is_among falses) c l → is_false_unmarked (seen ++ c) x ≡ is_among (negation l ∷ falses) x
 unmarked_more seen falses c l x a f = go (first_literal_of x.variable seen) refl
   where
@@ -181,7 +182,7 @@ FalsesAre-forced known marks step seen falses h l a e = at (clause_of known h) e
         FalsesAre-more marks step seen (seen ++ c) falses (negation l) a f.not_true (rw (negation-negation l) f.not_false) (λ x r.
         unmarked_more seen falses c l x (λ y v. (let q : is_literal_in_range (length marks) y ≡ false = rw v r in rw q at (a y))) f)
 
--- after a literal of the step's own clause is marked, the marks still tell which literals are false
+-- Let a literal in range be marked before the first hint, while its variable has no value. Then the marks still tell which literals are false.
 pub FalsesAre-start : (marks : List VariableMark) (step : ℕ) (falses : List Literal) (l : Literal) → FalsesAre marks step [] falses → is_literal_in_range (length marks) l ≡ true → is_among falses l ≡ false → is_among falses (negation l) ≡ false → FalsesAre (with_mark marks step l) step [] (l ∷ falses)
 FalsesAre-start marks step falses l a r f g = FalsesAre-more marks step [] [] falses l a f g (λ x n. (let q : false ≡ is_among falses x = rw n at (a x) in rw (apart' (length marks) x l n r, ← q) refl))
 
@@ -199,7 +200,8 @@ literals_of-append known (h ∷ hs) gs = ap (λ (ys : List Literal). unwrap_or (
 pub literals_of-more : (known : List (Option (List Literal))) (hints : List ℕ) (i : ℕ) → i < length hints → literals_of known (take (i + 1) hints) ≡ literals_of known (take i hints) ++ unwrap_or (clause_of known (get_or hints i 0)) []
 literals_of-more known hints i h = ap (literals_of known) (take_more hints i 0 h) ∙ literals_of-append known (take i hints) (get_or hints i 0 ∷ []) ∙ ap (λ (ys : List Literal). literals_of known (take i hints) ++ ys) (append-nil (unwrap_or (clause_of known (get_or hints i 0)) []))
 
--- if no earlier hinted clause has the variable, its first literal in this hint's clause is its first in all hinted clauses
+-- if no earlier hinted clause contains the variable, the first literal of this variable in the clause of the hint at index i is also the first in all
+-- hinted clauses
 pub hinted_here : (known : List (Option (List Literal))) (hints : List ℕ) (i v : ℕ) (clause : List Literal) (m : Literal) → i < length hints → first_literal_of v (literals_of known (take i hints)) ≡ None → clause_of known (get_or hints i 0) ≡ Some clause → first_literal_of v clause ≡ Some m → first_literal_of v (literals_of known hints) ≡ Some m
 hinted_here known hints i v clause m lt h c e =
     let s : hints ≡ take i hints ++ get_or hints i 0 ∷ drop (suc i) hints = sym (take-append-drop i hints) ∙ ap (λ (hs : List ℕ). take i hints ++ hs) (drop-cons hints i 0 lt) in
@@ -220,15 +222,16 @@ is_last-drop (x ∷ hints) (suc j) h = is_last-drop hints j (omega arith) ∙ sy
     same : (a b : ℕ) → eqb (suc a) (suc b) ≡ eqb a b
     same a b = elim (cases_eq a b) [ inl e ↦ rw (eq-eqb a b e) (eq-eqb (suc a) (suc b) (omega arith)) | inr n ↦ rw (ne_eqb a b n) (ne_eqb (suc a) (suc b) (λ e. n (omega arith))) ]
 
--- whether the hints from index i on end in a conflict, in terms of what the hint at i finds
+-- whether the hints from index i on end in a conflict, in terms of what the clause of the hint at i says
 is_conflict-at : (known : List (Option (List Literal))) (falses : List Literal) (hints : List ℕ) (i d : ℕ) → i < length hints → is_conflict known falses (drop i hints) ≡ follow (hint_finding known (is_among falses) (get_or hints i d)) (eqb (i + 1) (length hints)) (λ l. is_conflict known (negation l ∷ falses) (drop (i + 1) hints))
 is_conflict-at known falses hints i d h = rw (drop-cons hints i d h, add-one i, is_last-drop hints (suc i) (omega arith)) refl
 
--- a hint finds the same by the marks as by the list of false literals
+-- the clause of a hint says the same by the marks and the hinted clauses as by the list of false literals
 pub hint_seen : (known : List (Option (List Literal))) (marks : List VariableMark) (step : ℕ) (seen falses : List Literal) (h : ℕ) (f : Finding) → FalsesAre marks step seen falses → f ≡ hint_finding known (is_false marks step seen) h → hint_finding known (is_among falses) h ≡ f
 hint_seen known marks step seen falses h f a e = sym (e ∙ hint_finding-congr known (is_false marks step seen) (is_among falses) h a)
 
--- whether all hints end in a conflict, in terms of what the hint at index i finds
+-- Whether all hints end in a conflict, in terms of what the clause of the hint at index i says. The hints before it have been followed, and `falses`
+-- holds the literals that are false after them.
 pub conflict_now : (known : List (Option (List Literal))) (start falses : List Literal) (hints : List ℕ) (i : ℕ) (f : Finding) → i < length hints → hint_finding known (is_among falses) (get_or hints i 0) ≡ f → is_conflict known start hints ≡ is_conflict known falses (drop i hints) → is_conflict known start hints ≡ follow f (eqb (i + 1) (length hints)) (λ l. is_conflict known (negation l ∷ falses) (drop (i + 1) hints))
 conflict_now known start falses hints i f lt h e = e ∙ is_conflict-at known falses hints i 0 lt ∙ ap (λ (x : Finding). follow x (eqb (i + 1) (length hints)) (λ l. is_conflict known (negation l ∷ falses) (drop (i + 1) hints))) h
 

@@ -1,4 +1,5 @@
--- What a clause says: the scan that finds this out, and what it means for the clause's literals.
+-- What a clause says, and what this means for its literals. `find` scans a clause for literals that are not false. The first one that it finds is its
+-- candidate. A test p says which literals are false.
 use Rattle.std.proofs.Common.{◌≡◌, ℕ, suc, ◌<◌, ◌≤◌, Bool, true, false, cond, not, ◌&&◌, List, [], ◌∷◌, ◌++◌, Option, Some, None, refl, ap, sym, ◌∙◌, subst, length, get_or, take, drop, take-append-drop, drop-cons, inl, inr, ◌⊎◌}
 use Rattle.std.proofs.lemmas.List.{take_all}
 use Rattle.std.proofs.lemmas.Bool.{cases_Bool, and_right, and_parts, or_cases, or_left, or_right, not-true, false≢true}
@@ -10,7 +11,7 @@ use Rattle.dd_derivation.specs.declared.propagation.Finding.TheVariants.{Forced,
 use Rattle.dd_derivation.specs.Derivations.{same_literal, is_among, finding_of, finding, clause_of, hint_finding}
 use Rattle.dd_derivation.specs.lemmas.Soundness.{same_literal-eq, same_literal-refl, forced_by}
 
--- the literals are the candidate and copies of it; there are none if there is no candidate
+-- the literals that are not false are the candidate and copies of it; there are none if there is no candidate
 abbrev pub Sums : Option Literal → List Literal → Type 0
 Sums None left = left ≡ []
 Sums (Some l) left = (rest : List Literal) × (left ≡ l ∷ rest) × (list_all (same_literal l) rest ≡ true)

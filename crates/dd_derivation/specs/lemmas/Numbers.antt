@@ -86,13 +86,13 @@ known_of-set (c ∷ cs) [] k = refl
 known_of-set (c ∷ cs) (a ∷ alive) zero = refl
 known_of-set (c ∷ cs) (a ∷ alive) (suc k) = ap (λ (ys : List (Option (List Literal))). cond a (Some c) None ∷ ys) (known_of-set cs alive k)
 
--- deleting the clause with a number means writing false at its index
+-- deleting the clause with a number means writing false in `alive`, at the index one below the number
 pub without-known_of : (cs : List (List Literal)) (alive : List Bool) (number : ℕ) → (number ≡ 0 → ⊥) → without (known_of cs alive) number ≡ known_of cs (set alive (number - 1) false)
 without-known_of cs alive zero n = absurd (n refl)
 without-known_of cs alive (suc k) n = let e : suc k - 1 ≡ k = omega arith in rw e (sym (known_of-set cs alive k))
 
--- Let the clause named at index i be alive. Then all clauses named from index i on can be deleted exactly when, after its deletion, all clauses named
--- later can be deleted.
+-- Let the clause whose number is at index i be alive. The clauses named from index i on can be deleted exactly when those named from index i + 1 on
+-- can be deleted after this clause.
 pub deletes_one : (cs : List (List Literal)) (alive : List Bool) (numbers : List ℕ) (i : ℕ) → i < length numbers → (get_or numbers i 0 ≡ 0 → ⊥) → get_or numbers i 0 - 1 < length cs → length cs ≤ length alive → get_or alive (get_or numbers i 0 - 1) false ≡ true → are_deletable (known_of cs alive) (drop i numbers) ≡ are_deletable (known_of cs (set alive (get_or numbers i 0 - 1) false)) (drop (i + 1) numbers)
 deletes_one cs alive numbers i h n p l a = rw (drop-cons numbers i 0 h, add-one i, alive_some cs alive (get_or numbers i 0) n p l a, without-known_of cs alive (get_or numbers i 0) n) refl
 

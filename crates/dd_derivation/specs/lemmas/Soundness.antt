@@ -1,4 +1,5 @@
--- Refutations are sound: if steps refute the clauses, no set of true variables satisfies them.
+-- Refutations are sound: if steps refute the clauses, no set of true variables satisfies them. A literal is true or false under a set: the variables
+-- in the set are true, and all others are false. A test calls some literals false.
 use Rattle.std.proofs.Common.{◌≡◌, ℕ, zero, suc, Bool, true, false, cond, not, ◌&&◌, ◌||◌, List, [], ◌∷◌, ◌++◌, Option, Some, None, refl, ap, sym, ◌∙◌, subst, inl, inr, ◌⊎◌, get_or, map}
 use Rattle.std.specs.List.{list_any, list_all, filter, All, slice_get, slice_set}
 use Rattle.std.specs.Option.{option_map_or, option_and_then}
@@ -43,7 +44,7 @@ or_left_out : (a b : Bool) → a ≡ false → (a || b) ≡ true → b ≡ true
 or_left_out true b e h = cc
 or_left_out false b e h = h
 
--- if some literal of the clause is true, then so is one of those that the test does not call false
+-- if the test calls only false literals false, and some literal of the clause is true, then so is one of those that the test does not call false
 kept_true : (set : ℕ → Bool) (is_false : Literal → Bool) (clause : List Literal) → MarksFalse set is_false → list_any (is_true_under set) clause ≡ true → list_any (is_true_under set) (filter (λ l. not (is_false l)) clause) ≡ true
 kept_true set is_false [] m h = h
 kept_true set is_false (l ∷ clause) m h =
@@ -72,7 +73,8 @@ not_falsified : (b : Bool) (l : Literal) → cond b (Forced l) Open ≡ Falsifie
 not_falsified true l h = cc
 not_falsified false l h = cc
 
--- a true clause is not falsified, and a literal that it forces is true
+-- `left` holds the literals of a clause that the test does not call false. If one of them is true, the clause is not falsified, and a literal that it
+-- forces is true.
 finding_of_true : (set : ℕ → Bool) (is_false : Literal → Bool) (left : List Literal) → list_any (is_true_under set) left ≡ true → (finding_of is_false left ≡ Falsified → ⊥) × ((m : Literal) → finding_of is_false left ≡ Forced m → is_true_under set m ≡ true)
 finding_of_true set is_false [] h = absurd (false≢true h)
 finding_of_true set is_false (l ∷ rest) h = (
@@ -110,7 +112,7 @@ followed Falsified is_last next h = inl refl
 followed (Forced l) is_last next h = inr (l, refl, h)
 followed Open is_last next h = absurd (cc)
 
--- if the clause of a hint is true, it is not falsified, and a literal that it forces is true
+-- Let the test call only false literals false. If the clause of a hint is true, this clause is not falsified, and a literal that it forces is true.
 hint_true_at : (set : ℕ → Bool) (is_false : Literal → Bool) → MarksFalse set is_false → (o : Option (List Literal)) → ((c : List Literal) → o ≡ Some c → is_clause_true set c ≡ true) → (option_map_or (finding is_false) o Open ≡ Falsified → ⊥) × ((l : Literal) → option_map_or (finding is_false) o Open ≡ Forced l → is_true_under set l ≡ true)
 hint_true_at set is_false m None t = (λ e. cc, λ l e. absurd (cc))
 hint_true_at set is_false m (Some c) t = finding_of_true set is_false _ (kept_true set is_false c m (t c refl))
@@ -122,7 +124,7 @@ marks_more set falses l m t x h =
       | inr a ↦ m x a
     ]
 
--- hints do not end in a conflict if the known clauses are true and the marked literals are false
+-- hints do not end in a conflict if the known clauses are true and the literals in `falses` are false
 conflict_false : (set : ℕ → Bool) (known : List (Option (List Literal))) (falses : List Literal) (hints : List ℕ) → KnownTrue set known → MarksFalse set (is_among falses) → is_conflict known falses hints ≡ true → ⊥
 conflict_false set known falses [] s m h = false≢true h
 conflict_false set known falses (n ∷ hints) s m h =

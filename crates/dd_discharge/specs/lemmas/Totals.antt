@@ -41,7 +41,7 @@ pub total_swap : (f : ℕ → ℕ → ℤ) (m n : ℕ) → total_below (λ k. to
 total_swap f zero n = sym (total_none n)
 total_swap f (suc m) n = ap (λ (t : ℤ). t +ℤ total_below (f m) n) (total_swap f m n) ∙ sym (total_sum (λ j. total_below (λ k. f k j) m) (f m) n)
 
--- a sum is at least a if its first term is at least a and the others are at least 0
+-- if `a` is at most the first term of a sum, and 0 is at most each other term, then `a` is at most the sum
 pub total_first : (f : ℕ → ℤ) (n : ℕ) (a : ℤ) → 0 < n → a ≤ℤ f 0 → ((j : ℕ) → 1 ≤ j → j < n → pos 0 ≤ℤ f j) → a ≤ℤ total_below f n
 total_first f zero a z p h = absurd (omega (arith, z))
 total_first f (suc zero) a z p h = omega (arith, ints, p)

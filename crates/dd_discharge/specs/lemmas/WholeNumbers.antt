@@ -29,7 +29,7 @@ scaled_le y a b p q =
 pub scaled_right : (a b y : ℤ) → pos 0 ≤ℤ y → a ≤ℤ b → (a *ℤ y) ≤ℤ (b *ℤ y)
 scaled_right a b y p q = let e = *ℤ_comm a y in let f = *ℤ_comm b y in let d = scaled_le y a b p q in omega (arith, ints, d, e, f)
 
--- a positive factor on both sides may be cancelled
+-- a positive factor on both sides of an inequality may be cancelled
 pub cancel_le : (x y : ℤ) (k : ℕ) → 0 < k → (x *ℤ pos k) ≤ℤ (y *ℤ pos k) → x ≤ℤ y
 cancel_le x y k z h = by_lt_z y x below (λ p. p)
   where

@@ -1,4 +1,5 @@
--- What follows by unit propagation from no assumptions, as values of the variables.
+-- What follows by unit propagation from no assumptions, as values of the variables and as a list of entries. An entry is a literal that became true,
+-- and the number, counted from 0, of the clause that forced it. The entries are in the order in which the literals became true.
 use Rattle.std.specs.Prelude.{◌≡◌, ℕ, ◌-◌, ◌<◌, Bool, true, false, not, if◌then◌else◌, List, [], Option, Some, None, length, map, take, All, slice_index_or}
 use Rattle.std.specs.{Bool.beq, List.sum_by}
 use Rattle.dd_clause.specs.{declared.clause.Literal.Literal, Clauses.negation}
@@ -65,7 +66,7 @@ Conflicts clauses entries number = IsTrail clauses entries × IsFalsified clause
 abbrev pub IsSettled : List (Option Bool) → List Literal → Type 0
 IsSettled values clause = finding (is_false_by values) clause ≡ Open
 
--- the new entries and values follow, and fewer variables than before have no value
+-- the new entries and values follow, and there are fewer variables without a value than before
 pub record FollowsMore (clauses : List (List Literal)) (values : List (Option Bool)) (new_entries : List Entry) (new_values : List (Option Bool)) : Type 0 where
   pub follows : Follows clauses new_entries new_values
   pub fewer : unknowns new_values < unknowns values

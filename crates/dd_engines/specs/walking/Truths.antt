@@ -18,7 +18,7 @@ abbrev pub occurrences : Literal → ℕ → List (List Literal) → List ℕ
 occurrences l first [] = []
 occurrences l first (c ∷ cs) = replicate (times_in l c) first ++ occurrences l (first + 1) cs
 
--- the place of a literal in a list of all literals, which has two for each variable
+-- the place of a literal, counted from 0, in a list of all literals: for each variable in turn, first its negation and then the variable itself
 abbrev pub place_of : Literal → ℕ
 place_of l = 2 * (l.variable - 1) + (if l.positive then 1 else 0)
 

@@ -16,7 +16,7 @@ is_given : (b value it : Bool) → Some it ≡ (if b then Some value else None) 
 is_given true value it h = (refl, cc)
 is_given false value it h = absurd (cc)
 
--- the value so far, before and after the next part
+-- `before` is the value of the parts so far, `part` the value of the next part, and `now` the value of all of these
 module _ (value before part now : Bool) (is : value ≡ before) where
   true_and : value ≡ true → now ≡ part → now ≡ (before && part)
   true_and = by before is

@@ -53,7 +53,8 @@ module _ (test : LeafTest) where
       ∙ (list_all-map (leaves_pass test) (both_have c d) (range_with_len 0 n)
       ∙ list_all-alike (λ s. leaves_pass test (both_have c d s)) (λ s. test c s && (test d s && true)) (leaves_of_pair c d) (range_with_len 0 n))
 
-  -- the parts of a quantifier's expansion, one for each cell of its balls
+  -- the parts of a quantifier's expansion are made for the cells in cell order, without repeats; all leaves of these parts pass the test exactly
+  -- when all leaves of the body's expansion at each cell of the list `cs` pass it
   leaves_of_each : (f : Expansion) (env cs : List Cell) → list_all (leaves_pass test) (map (λ c. f (env ++ c ∷ [])) (in_order cs)) ≡ list_all (λ c. leaves_pass test (f (env ++ c ∷ []))) cs
   leaves_of_each f env cs =
       list_all-map (leaves_pass test) (λ c. f (env ++ c ∷ [])) (in_order cs) ∙ list_all-in_order (λ c. leaves_pass test (f (env ++ c ∷ []))) cs
@@ -161,7 +162,7 @@ members cs ds same d there =
     let found = some_passes (is_cell d) ds in_other in
     subst (Contains ds) (cells_equal found.0 d ((Equal-is (cell_cmp found.0 d)).0 found.2)) found.1
 
--- two lists of cells that pass the same tests have the same cells, so in cell order they are the same list
+-- two lists of cells that pass the same tests have the same cells, so they are equal once they are put in cell order without repeats
 pub same_by_tests : (cs ds : List Cell) → ((test : Cell → Bool) → list_all test cs ≡ list_all test ds) → in_order cs ≡ in_order ds
 same_by_tests cs ds same =
     is-in_order (in_order cs) ds (sorted-in_order cs)
@@ -237,7 +238,7 @@ module _ (g : Grid) (n : ℕ) (es : List Edge) (env : List Cell) where
       let both = and_parts (balls_fit scope bs) (formula_fits g n f.0 (scope + 1)) h in
       leaves_of_any (by_symbol n) (map (λ c. expansion es n f.0 (env ++ c ∷ [])) (in_order (balls_of es env bs))) ∙ each_below f scope (balls_of es env bs) both.1
 
--- if the formula fits, the symbol of each leaf of its expansion is one of the n symbols
+-- if `formula_fits` holds of the formula, the symbol of each leaf of its expansion is one of the n symbols
 pub leaves_are_symbols : (g : Grid) (n : ℕ) (f : Formula) → AreBelow g n f
 leaves_are_symbols g n = ind-Formula (AreBelow g n) (λ x y is es env scope.
     rw (fold-roll-Formula Expansion (expansion_step es n) x, fold-roll-Formula (ℕ → Bool) (formula_fits_step g n) x, ← is) (step_below g n es env y scope))

@@ -1,4 +1,4 @@
--- The expansion of a formula has the same truth value as the formula.
+-- The expansion of a formula over n symbols has the same truth value as the formula, if the look-up gives only symbols below n.
 use Rattle.std.proofs.Common.{◌≡◌, ℕ, ◌<◌, Bool, true, false, List, [], ◌∷◌, ◌++◌, map, length, get_or, refl, ap, sym, ◌∙◌, Some, None, arith, eq-eqb, inl, inr}
 use Rattle.std.proofs.lemmas.Bool.{and_from, and_right, cases_Bool, Decides.nat_tests}
 use Rattle.std.proofs.lemmas.List.Folds.{list_all-map, list_any_at}
@@ -96,7 +96,7 @@ module _ (es : List Edge) (n : ℕ) (env : List Cell) (look : Look) (below : Has
   any_say [] = refl
   any_say (f ∷ fs) = rw (f.1 env look below, any_say fs)
 
-  -- each cell of the balls takes the place of the quantifier's variable
+  -- a quantifier's expansion says the same as the quantifier, if the body's expansion says the same as the body
   for_all_says : (f : Known (SaysSame es n)) (cs : List Cell) →
       holds (all_of (map (λ c. expansion es n f.0 (env ++ c ∷ [])) (in_order cs))) look ≡ list_all (λ c. truth es f.0 (env ++ c ∷ []) look) cs
   for_all_says f cs =

@@ -19,7 +19,7 @@ seen_extends look v c =
     cond_both (is_in_range (moved c.position v)) (look (shifted v c)) None (λ o. is_some o ≡ true → o ≡ look (shifted v c)) (λ _ _. refl) (λ _ h. absurd (cc))
 
 module _ (es : List Edge) (n : ℕ) (f : Formula) where
-  -- the expansion at the origin, with symbols taken relative to v, is true exactly when the formula is true at v
+  -- the expansion at the origin, with symbols taken relative to v, is true exactly when the formula is true at the cell of the node a at v
   pub says_at : (look : Look) (v : Place) (a : ℕ) → HasSymbolsBelow n look → holds (expansion es n f (origin_at a ∷ [])) (λ d. look (shifted v d)) ≡ truth es f (cell v a ∷ []) look
   says_at look v a below =
       says_same es n f (origin_at a ∷ []) (λ d. look (shifted v d)) (λ d. below (shifted v d))
@@ -36,7 +36,8 @@ same_where : {A : Type 0} (b : Bool) (x y : A) → (b ≡ true → x ≡ y) → 
 same_where true x y h = ap Some (h refl)
 same_where false x y h = refl
 
--- `truth_at` again, with an answer only if each cell that is read has a symbol
+-- The answer of `evaluate`, which is none if some leaf has no symbol, is the truth value of the formula at c. It is none if some cell that is read
+-- has no symbol, as seen from the position of c.
 pub truth_where_given : (es : List Edge) (n : ℕ) (f : Formula) (c : Cell) (look : Look) → 1 ≤ n → HasSymbolsBelow n look →
     cond (given (expansion es n f (origin_at c.node ∷ [])) (seen look c.position)) (Some (holds (expansion es n f (origin_at c.node ∷ [])) (seen look c.position))) None
     ≡ cond (list_all (λ d. is_some (seen look c.position d)) (reads es f (origin_at c.node ∷ []))) (Some (truth es f (c ∷ []) look)) None

@@ -13,12 +13,12 @@ AreSymbols r ss = All (λ s. s < r.symbols) ss
 abbrev pub AreOf : LocalRule → List Cell → Type 0
 AreOf r cs = All (λ c. c.node < r.nodes) cs
 
--- the breaking fillings that begin with the allowed symbols ss, in lexicographic order; the listed cells are those that have no symbol yet
+-- the breaking fillings that begin with the allowed symbols ss, in lexicographic order; the cells in the list have no symbol yet
 abbrev pub extensions : LocalRule → ℕ → List Cell → List ℕ → List (List ℕ)
 extensions r a [] ss = cond (is_true_at_origin r a ss) [] (ss ∷ [])
 extensions r a (c ∷ cs) ss = flat_map (λ s. cond (rule_allows r c.node s) (extensions r a cs (ss ++ s ∷ [])) []) (range_with_len 0 r.symbols)
 
--- all fillings with allowed symbols that begin with ss, whether the rule is true under them or not
+-- all fillings that begin with ss and give allowed symbols to the cells in the list, whether the rule is true under them or not
 abbrev pub completions : LocalRule → List Cell → List ℕ → List (List ℕ)
 completions r [] ss = ss ∷ []
 completions r (c ∷ cs) ss = flat_map (λ s. cond (rule_allows r c.node s) (completions r cs (ss ++ s ∷ [])) []) (range_with_len 0 r.symbols)

@@ -1,5 +1,5 @@
--- A periodic configuration has only allowed symbols exactly when its fundamental box has. A symbol is allowed if the cell's node allows it. The cells
--- of the box are numbered from 0, in the order in which their symbols are listed.
+-- All symbols of a periodic configuration are allowed exactly when those in its fundamental box are. A symbol is allowed at a cell if the cell's node
+-- allows it. The cells of the box are numbered from 0, in the order in which their symbols are listed.
 use Rattle.std.proofs.Common.{◌≡◌, ℕ, ◌<◌, Bool, true, length, get_or, ap, sym, subst, ◌∙◌, Some, None, inl, inr}
 use Rattle.std.proofs.lemmas.{Bool.cases_lt, Bool.lt-ltb, Bool.le-ltb, Option.slice_get-get_or}
 use Rattle.std.specs.Prelude.{Option, IfSome, cond, slice_get}

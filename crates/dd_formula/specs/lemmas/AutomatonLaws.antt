@@ -1,4 +1,6 @@
--- The counts of an automaton, from the counts of its parts, and what follows from its limits.
+-- The counts of an automaton, from the counts of its parts, and what follows from its limits. Claims about all automata are proved by induction.
+-- `Known`, `Limited` and `Uniform` pair an automaton with a proof of such a claim about it; `layer`, `limited_layer` and `uniform_layer` drop the
+-- proofs.
 use Rattle.std.proofs.Common.{◌≡◌, ◌<◌, ◌≤◌, ℕ, zero, suc, ◌+◌, Bool, true, false, List, [], ◌∷◌, ◌++◌, Option, Some, None, MatchOption, length, get_or, map, max, refl, ap, sym, ◌∙◌, inl, inr, subst, arith}
 use Rattle.std.proofs.Math.Nat.{eq-or-lt_of_le}
 use Rattle.std.proofs.lemmas.Bool.{and_parts, and_from, leb-true, lt-ltb, ltb-true, eqb-true}
@@ -16,7 +18,7 @@ use Rattle.dd_formula.specs.declared.automaton.{Automaton.TheOpen.Automaton-F, C
 use Rattle.dd_values.specs.lemmas.Booleans.{or_none}
 use Rattle.dd_formula.specs.declared.automaton.Automaton.TheVariants as v
 
--- each definition, for an automaton by cases and for a composition
+-- what `counted` and `automaton_fits` say of an automaton by cases, and what these and `checks` say of a composition
 pub counted_given : (c : Cases) → counted (v.Given c) ≡ counted_step (Automaton-F.Given c)
 counted_given c = ap counted (sym (v.rolls-Given c)) ∙ fold-roll-Automaton Counted counted_step (Automaton-F.Given c)
 
@@ -77,7 +79,7 @@ inner_part s f g h = record {
   within = (and_parts _ _ (and_parts _ _ (sym (within_composed s.nodes f g) ∙ h.within)).0).1;
 }
 
--- a well-formed automaton is within the limits
+-- if `are_within` holds of an automaton, then its counts are within the limits
 abbrev IsLimited : ℕ → Automaton → Type 0
 IsLimited n f = are_within n f ≡ true → keeps_limits n (counted f) ≡ true
 
@@ -137,7 +139,7 @@ module _ (X : Type 0) (g h : X → List Cell) (same : (x : X) (p : Cell → Bool
       ∙ (list_all-alike (λ x. list_all p (g x)) (λ x. list_all p (h x)) (λ x. same x p) xs
       ∙ sym (list_all-flat_map p h xs)))
 
--- the cells that the cases read, from the cells that each rule reads, in cell order
+-- the cells that the cases read form the same list in cell order, whether or not the cells of each rule are put in cell order before they are joined
 pub reads_by_cases : (cases : List (LocalRule × ℕ)) (a : ℕ) → in_order (flat_map (λ case. cells_at case.0 a) cases) ≡ in_order (cases_reads cases a)
 reads_by_cases cases a =
     in_order_alike (LocalRule × ℕ) (λ case. cells_at case.0 a) (λ case. reads_at case.0 a) (λ case p. list_all-in_order p (reads_at case.0 a)) cases
@@ -163,7 +165,7 @@ first_in_order g cs =
     list_all-flat_map p (moved_cells g) (in_order cs)
     ∙ (list_all-in_order (λ c. list_all p (moved_cells g c)) cs ∙ sym (list_all-flat_map p (moved_cells g) cs)))
 
--- the cells that a composition reads, from the cells that its parts read, in cell order
+-- a composition reads the cells that its second part reads at each cell that its first part reads; here all these lists are in cell order
 pub reads_composed : (f g : Automaton) (a : ℕ) → cells_of (v.Composed f g) a ≡ in_order (flat_map (moved_cells g) (cells_of f a))
 reads_composed f g a =
     ap (λ h. in_order (h.reads a)) (counted_composed f g)
@@ -296,7 +298,7 @@ uniform = ind-Automaton IsUniform (λ x y is h.
 checks_given : (n : ℕ) (c : Cases) → checks n (v.Given c) ≡ limits_step n (Automaton-F.Given c)
 checks_given n c = ap (checks n) (sym (v.rolls-Given c)) ∙ fold-roll-Automaton Checked (limits_step n) (Automaton-F.Given c)
 
--- an automaton by cases within the limits is well formed in each setting that its cases fit
+-- an automaton by cases within the limits on instances and reach is well formed in each setting that has a node and that its cases fit
 pub given_formed : (s : CommonNumbers) (c : Cases) → 1 ≤ s.nodes → cases_fit s c.cases c.otherwise ≡ true → is_few s.nodes (counted (v.Given c)) ≡ true →
     is_short s.nodes (counted (v.Given c)) ≡ true → IsAutomaton s (v.Given c)
 given_formed s c some fit few short =

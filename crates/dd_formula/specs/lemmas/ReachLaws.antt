@@ -32,7 +32,7 @@ list_all-flat_map p f (x ∷ xs) =
     ap (list_all p) (flat_map-cons f x xs)
     ∙ (list_all-append p (f x) (flat_map f xs) ∙ ap (λ b. list_all p (f x) && b) (list_all-flat_map p f xs))
 
--- a range passes a test if each of its numbers does
+-- a range passes a test if all numbers below its end do
 pub all_numbers : (p : ℕ → Bool) (m n : ℕ) → ((k : ℕ) → k < m + n → p k ≡ true) → list_all p (range_with_len m n) ≡ true
 all_numbers p m zero h = refl
 all_numbers p m (suc n) h = and_from _ _ (h m (omega arith)) (all_numbers p (m + 1) n (λ k below. h k (omega arith)))
@@ -57,7 +57,7 @@ reach_within r k all =
 pub reach_near : (r : LocalRule) → IsRule r → reach r ≤ 16
 reach_near r ok = reach_within r 16 ok.short
 
--- the same for an automaton at the first n nodes
+-- the reach of an automaton over the first n nodes is at most k exactly when at each of these nodes it reads only cells that lie at most k away
 automaton_nodes : (f : Automaton) (n k : ℕ) → nat_le (automaton_reach n f) k ≡ list_all (λ a. list_all (is_within k) (cells_of f a)) (range_with_len 0 n)
 automaton_nodes f n k = all_within k (automaton_cells n f) ∙ list_all-flat_map (is_within k) (cells_of f) (range_with_len 0 n)
 

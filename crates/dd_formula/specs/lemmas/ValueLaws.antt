@@ -1,4 +1,5 @@
--- The value of an automaton, from the values of its parts and from what it reads.
+-- The value of an automaton, from the values of its parts and from what it reads. Claims about all automata are proved by induction. `Known` and
+-- `Inside` pair an automaton with a proof of such a claim about it; `layer` and `inside_layer` drop the proofs.
 use Rattle.std.proofs.Common.{◌≡◌, ◌<◌, ℕ, suc, ◌+◌, Option, Bool, true, List, [], ◌∷◌, length, get_or, drop, drop-cons, add-one, Some, None, cond, ap, sym, ◌∙◌, refl, subst, eq-eqb, ℤ, ◌+ℤ◌, pos, arith}
 use Rattle.std.proofs.lemmas.{Bool.and_parts, Bool.ltb-true, Bool.eqb-true, Bool.cond_both, Int.ints}
 use Rattle.std.proofs.lemmas.List.Folds.{list_all-map, list_all-append}
@@ -19,7 +20,7 @@ use Rattle.dd_formula.specs.lemmas.AutomatonLaws.{counted_given, counted_compose
 use Rattle.dd_values.specs.lemmas.Numbers.{plus_zero}
 use Rattle.dd_formula.specs.declared.automaton.Automaton.TheVariants as v
 
--- the definition, for an automaton by cases and for a composition
+-- the value of an automaton by cases, and that of a composition
 pub value_given : (c : Cases) (look : Look) (at : Cell) → value (v.Given c) look at ≡ first_case c.cases c.otherwise look at
 value_given c look at =
     ap (λ (g : Valuation). g look at) (ap value (sym (v.rolls-Given c)) ∙ fold-roll-Automaton Valuation value_step (Automaton-F.Given c))
@@ -52,7 +53,7 @@ abbrev alike : Place → Place → Look → Look → Cell → Bool
 alike u w one other d = are_equal (one (shifted u d)) (other (shifted w d))
 
 -- The value of an automaton depends only on the symbols of the cells that it reads. If one look-up gives these cells, moved by u, the same symbols as
--- the other gives them moved by w, then the automaton has the same value at u and at w.
+-- the other gives them moved by w, then the automaton has the same value at u under the one as at w under the other.
 abbrev Depends : Automaton → Type 0
 Depends f = (a : ℕ) (u w : Place) (one other : Look) → list_all (alike u w one other) ((counted f).reads a) ≡ true → value f one (cell u a) ≡ value f other (cell w a)
 
@@ -77,7 +78,8 @@ by_cases (case ∷ cases) otherwise a u w one other h =
     ap (λ b. cond b case.1 (first_case cases otherwise one (cell u a))) (truth_by_reads case.0 a u w one other both.0)
     ∙ ap (λ n. cond (is_true case.0 (cell w a) other) case.1 n) (by_cases cases otherwise a u w one other both.1)
 
--- the same for the second automaton of a composition, at a cell that the first one reads
+-- Let g be the second automaton of a composition, and c a cell that the first one reads. If one look-up gives the cells that g reads at c, moved by
+-- u, the same symbols as the other gives them moved by w, then g has the same value at c moved by u under the one as at c moved by w under the other.
 at_read : (g : Automaton) → Depends g → (u w : Place) (one other : Look) (c : Cell) → list_all (alike u w one other) (map (shifted c.position) ((counted g).reads c.node)) ≡ true →
     are_equal (Some (value g one (shifted u c))) (Some (value g other (shifted w c))) ≡ true
 at_read g depends u w one other c h =
@@ -106,7 +108,7 @@ value_by_reads = ind-Automaton Depends (λ x y is a u w one other h.
     ∙ (subst DependsLayer is (step_depends y) a u w one other (ap (λ (k : Counted). list_all (alike u w one other) (k.reads a)) (sym all) ∙ h)
     ∙ sym (ap (λ (k : Valuation). k other (cell w a)) is_value)))
 
--- The value is a symbol of the alphabet.
+-- If an automaton fits a setting, then its value at each cell is a symbol of the setting's alphabet.
 abbrev IsInside : CommonNumbers → Automaton → Type 0
 IsInside s f = automaton_fits s f ≡ true → (look : Look) (c : Cell) → value f look c < s.symbols
 
@@ -160,7 +162,7 @@ read_by_both f g a look =
     ∙ (list_all-alike (λ c. are_given look origin (there c)) (λ c. is_read g c look) (read_there g look) reads
     ∙ sym (list_all-in_order (λ c. is_read g c look) reads)))
 
--- the first true case from the i-th on is the i-th if that is true, and else the first true case after it
+-- the cases from the i-th on give a cell the symbol of the i-th case if its rule is true there, and else the symbol that the later cases give
 pub case_step : (cases : List (LocalRule × ℕ)) (otherwise : ℕ) (look : Look) (at : Cell) (i : ℕ) (case : LocalRule × ℕ) (b : Bool) → i < length cases → case ≡ get_or cases i case →
     is_true case.0 at look ≡ b → first_case (drop i cases) otherwise look at ≡ cond b case.1 (first_case (drop (i + 1) cases) otherwise look at)
 case_step cases otherwise look at i case b below is here =
@@ -169,7 +171,7 @@ case_step cases otherwise look at i case b below is here =
     ∙ (ap (λ t. cond t case.1 (first_case (drop (suc i) cases) otherwise look at)) here
     ∙ ap (λ n. cond b case.1 (first_case (drop n cases) otherwise look at)) (sym (add-one i))))
 
--- if each cell that the cases read has a symbol, then so does each cell that one of the cases reads
+-- if `are_given` holds of the cells that the cases read, then it holds of the cells that one of the cases reads
 pub case_given : (cases : List (LocalRule × ℕ)) (look : Look) (p : Place) (a i : ℕ) (case : LocalRule × ℕ) → are_given look p (cases_reads cases a) ≡ true → i < length cases → case ≡ get_or cases i case →
     are_given look p (reads_at case.0 a) ≡ true
 case_given cases look p a i case given below is =

@@ -1,5 +1,5 @@
--- How to prove a claim about all automata: for each automaton by cases, and for each composition. Also the number of clauses of an automaton's value,
--- for both forms.
+-- An automaton has one of two forms: it is given by cases, or it is a composition. A claim about all automata is proved form by form. The number of
+-- clauses of an automaton's value is given for each form.
 use Rattle.std.proofs.Common.{◌≡◌, ℕ, ap, sym, ◌∙◌, subst}
 use Rattle.dd_formula.specs.Automata.{Counted, counted, counted_step}
 use Rattle.dd_formula.specs.ValueCounts.{Valued, valued_step}

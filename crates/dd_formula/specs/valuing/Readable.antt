@@ -1,4 +1,4 @@
--- What each step in evaluating a composition needs: each cell that it reads has a symbol of the alphabet.
+-- What each step in evaluating a composition needs: well-formed automata, and a symbol of the alphabet for each cell that is read.
 use Rattle.std.specs.{Prelude.ℕ, Prelude.◌<◌, Prelude.◌≡◌, Prelude.true, Prelude.List, List.list_all}
 use Rattle.dd_lattice.specs.{Place.Place, declared.position.Cell.Cell}
 use Rattle.dd_pattern.specs.{Reading.Look, Reading.HasSymbolsBelow, Filling.Filled, Filling.filling_look}

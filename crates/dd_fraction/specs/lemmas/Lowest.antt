@@ -65,8 +65,8 @@ numbers_same n m d e g h a b p q s t z =
     ∙ (ap (λ (x : ℤ). x *ℤ pos d) (sym q.num)
     ∙ (sym (times_times b.num (pos h) (pos d)) ∙ ap (λ (k : ℕ). b.num *ℤ pos k) (sym s))))))
 
--- If n / d = m / e, then |n| · e = |m| · d, so (|n| · e, d · e) and (|m| · d, e · d) are the same pair. The greatest common divisor of this pair is
--- e times that of n and d, and also d times that of m and e.
+-- If n / d = m / e, the two fractions have the same lowest terms. Since |n| · e = |m| · d, the pairs (|n| · e, d · e) and (|m| · d, e · d) are the
+-- same. The greatest common divisor of this pair is e times that of n and d, and also d times that of m and e.
 pub lowest_same : (n m : ℤ) (d e : ℕ) → n *ℤ pos (max 1 e) ≡ m *ℤ pos (max 1 d) → lowest n d ≡ lowest m e
 lowest_same n m d0 e0 s =
     let d = max 1 d0 in

@@ -1,5 +1,5 @@
--- The laws of the order of exact fractions. Since a is at most b exactly when b - a is at least 0, these laws follow from those of sums and products,
--- and from the signs of sums and products.
+-- The laws of the order of exact fractions. Since a is at most b exactly when b - a is at least 0, most of these laws follow from those of sums and
+-- products, and from the signs of sums and products.
 use Rattle.std.proofs.Common.{◌≡◌, ℕ, ◌<◌, ◌⊎◌, inl, inr, sym, ap, subst, ◌∙◌, max, arith}
 use Rattle.std.proofs.lemmas.{Int.ints, Int.by_lt_z, Cmp.int_ranked}
 use lib.IntN.{ℤ, pos, negsuc, ◌*ℤ◌}

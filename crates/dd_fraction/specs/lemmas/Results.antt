@@ -137,7 +137,7 @@ crossed a b l r e f =
     let y = bounded_some (b.num *ℤ pos a.den) r f in
     record { left = x.0; right = y.0; both = λ i. x.1 i +ℤ y.1 i }
 
--- a cross product doesn't fit
+-- if a cross product doesn't fit, `checked_sum` is None
 pub sum_none_first : (a b : Exact) → None ≡ bounded (a.num *ℤ pos b.den) → None ≡ checked_sum a b
 sum_none_first a b e =
     let x = refused (is_bounded (a.num *ℤ pos b.den)) (a.num *ℤ pos b.den) e in
@@ -150,7 +150,7 @@ sum_none_second a b l e f =
     let y = refused (is_bounded (b.num *ℤ pos a.den)) (b.num *ℤ pos a.den) f in
     rw (x.0, y) refl
 
--- the sum of the cross products doesn't fit
+-- if the sum of the cross products doesn't fit, `checked_sum` is None
 pub sum_none_third : (a b : Exact) (l r : ℤ)
     → Some l ≡ bounded (a.num *ℤ pos b.den) → Some r ≡ bounded (b.num *ℤ pos a.den)
     → None ≡ bounded (l +ℤ r) → None ≡ checked_sum a b
@@ -160,7 +160,7 @@ sum_none_third a b l r e f g =
     subst (λ (n : ℤ). is_bounded n ≡ false) x.both (refused (is_bounded (l +ℤ r)) (l +ℤ r) g) in
     rw (x.left, x.right, z) refl
 
--- the product of the denominators doesn't fit
+-- if the product of the denominators doesn't fit, `checked_sum` is None
 pub sum_none_fourth : (a b : Exact) (l r n : ℤ)
     → Some l ≡ bounded (a.num *ℤ pos b.den) → Some r ≡ bounded (b.num *ℤ pos a.den)
     → Some n ≡ bounded (l +ℤ r) → None ≡ bounded_size (a.den * b.den) → None ≡ checked_sum a b

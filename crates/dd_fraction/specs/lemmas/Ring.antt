@@ -84,7 +84,7 @@ product_nonpositive (pos zero) k p = omega (arith, ints)
 product_nonpositive (pos (suc x)) k p = absurd (omega (arith, ints, p))
 product_nonpositive (negsuc x) k p = omega (arith, ints)
 
--- if x · d = n · k for positive d and k, then x and n have the same sign
+-- if x · d = n · k, k is positive, and x is at least 0, then n is at least 0
 pub same_nonneg : (x n : ℤ) (d k : ℕ) → 0 < k → x *ℤ pos d ≡ n *ℤ pos k → pos 0 ≤ℤ x → pos 0 ≤ℤ n
 same_nonneg x n d k q e p = by_lt_z n (pos 0) below (λ h. h)
   where
@@ -94,6 +94,7 @@ same_nonneg x n d k q e p = by_lt_z n (pos 0) below (λ h. h)
         let under : (n *ℤ pos k) <ℤ pos 0 = product_negative n k q h in
         absurd (omega (arith, ints, above, under, e))
 
+-- if x · d = n · k, and d and x are positive, then n is positive
 pub same_positive : (x n : ℤ) (d k : ℕ) → 0 < d → x *ℤ pos d ≡ n *ℤ pos k → pos 0 <ℤ x → pos 0 <ℤ n
 same_positive x n d k q e p = by_lt_z (pos 0) n (λ h. h) at_most
   where

@@ -1,4 +1,5 @@
--- The numbers of a box's positions lead back to the positions. The bounds of B(n) contain exactly the positions of B(n).
+-- The numbers of a box's positions lead back to the positions. The positions between the bounds of B(n), the centred box of radius n, are exactly
+-- those of B(n).
 use Rattle.std.proofs.Common.{◌≡◌, ◌↔◌, Bool, true, false, ◌-ℤ◌, ℕ, ◌+◌, ◌*◌, ◌/◌, ◌%◌, ◌<◌, ℤ, pos, ◌+ℤ◌, ◌≤ℤ◌, arith, mul_comm}
 use Rattle.std.proofs.lemmas.Int.{ints}
 use Rattle.std.proofs.lemmas.Nat.{mul-add-lt, div-mul-add, mod-mul-add, mod_below, div_below, div-add-mod'}
@@ -66,7 +67,7 @@ high_from_axis : (active : Bool) (n : ℕ) (c : ℤ) → OnAxis active (IsUpTo n
 high_from_axis true n c h = h.high
 high_from_axis false n c h = omega (arith, ints)
 
--- the bounds of B(n) contain exactly the positions of B(n)
+-- the positions between the bounds of B(n) are exactly those of B(n)
 pub centred_members : (d n : ℕ) (p : Place) → IsWithin (centred d n) p ↔ IsCentred d n p
 centred_members d n p = (
   λ h. record {

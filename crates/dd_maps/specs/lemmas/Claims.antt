@@ -11,7 +11,7 @@ use Rattle.dd_formula.specs.{LocalRule.LocalRule, LocalRule.local_rule, Automata
 use Rattle.dd_maps.specs.Pairs.{IsRuleOver}
 use Rattle.dd_maps.specs.Images.{image, KeepsAt, GivesBackAt, HasSymbolAt, AtEachNode, ImageBreaks, Changes, HasSymbols}
 
--- a rule that was made from a formula
+-- a rule that was made from a well-formed formula over a topology and sets of allowed symbols is a rule over them
 pub rule_over : (g : Grid) (s : SymbolSets) (f : Formula) (y : LocalRule) → IsFormula g s.symbols f → y ≡ local_rule g s f → IsRuleOver g s y
 rule_over g s f y formula made = subst (IsRuleOver g s) (sym made) (record { same = refl; formula = formula })
 
@@ -38,7 +38,7 @@ same_symbol x o t is h = elim (cases_Bool (x == t)) [
   | inr other ↦ absurd (h (λ equal. let both : Some x ≡ Some t = equal ∙ is in let one : x ≡ t = cc in absurd (let none : true ≡ false = sym (eq-eqb x t one) ∙ other in cc)))
 ]
 
--- a composition that changes no symbol gives each symbol back
+-- if each cell of a position has one of the first k symbols, and the composition changes none of them, it gives each of them back
 pub gives_back : (n k : ℕ) (f g : Automaton) (look : Look) (v : Place) → HasSymbols n k look v → (Changes n f g look v → ⊥) → AtEachNode n (GivesBackAt f g look) v
 gives_back n k f g look v has unchanged a below =
     same_symbol (value f (image g look) (cell v a)) (look (cell v a)) (has a below).0 (has a below).2 (λ changed. unchanged (a, below, changed))

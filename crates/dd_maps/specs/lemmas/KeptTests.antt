@@ -1,5 +1,4 @@
--- Tests of the items that a filter keeps, and tests of all numbers below a bound. The outcome of the latter depends on one number
--- alone.
+-- Whether each or some item that a filter keeps passes a test. Tests of the numbers below a bound whose outcome depends on one number alone.
 use Rattle.std.proofs.Common.{◌≡◌, ◌<◌, ℕ, Bool, true, false, List, [], ◌∷◌, length, get_or, refl, ap, sym, ◌∙◌, arith, eq-eqb, inl, inr}
 use Rattle.std.proofs.lemmas.{Bool.cases_Bool, Bool.eqb-true, List.Folds.list_any_at}
 use Rattle.std.proofs.lemmas.List.FromFn.{length-range_with_len, get_or-range_with_len}
@@ -32,7 +31,7 @@ ask_one q b a h = elim (cases_Bool (b == a)) [
   | inr other ↦ rw other refl
 ]
 
--- let b be below n: b passes exactly when each number below n passes or isn't b
+-- let b be below n: b passes the test q exactly when each number below n passes q or isn't b
 pub all_but_one : (q : ℕ → Bool) (b n : ℕ) → b < n → list_all (λ a. not (b == a) || q a) (range_with_len 0 n) ≡ q b
 all_but_one q b n below = by (q b) refl
   where
@@ -50,7 +49,7 @@ ask_none q t a h = elim (cases_Bool (t == a)) [
     and_false true = refl
     and_false false = refl
 
--- let t be below n: t passes exactly when some number below n passes and is t
+-- let t be below n: t passes the test q exactly when some number below n passes q and is t
 pub some_one : (q : ℕ → Bool) (t n : ℕ) → t < n → list_any (λ a. q a && (t == a)) (range_with_len 0 n) ≡ q t
 some_one q t n below = by (q t) refl
   where

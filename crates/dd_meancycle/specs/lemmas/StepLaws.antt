@@ -5,7 +5,7 @@ use Rattle.std.specs.Prelude.{◌&&◌, nat_lt, slice_index_or}
 use Rattle.dd_transfer.specs.Graphs.{Transfer, IsTransfer, target, next_of, window_of, weight_at}
 use Rattle.dd_meancycle.specs.Means.{IsPath, weight_of}
 
--- what is known of an edge from the state u by the slice t to the state v
+-- what holds if an edge leads from the state u by the slice t to the state v
 pub record Step (g : Transfer) (u t v : ℕ) : Type 0 where
   pub state : u < g.states
   pub slice : t < g.slices

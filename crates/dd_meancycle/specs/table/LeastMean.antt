@@ -6,7 +6,8 @@ use Rattle.dd_meancycle.specs.declared.{edges.Edge.Edge, table.EdgeMean.EdgeMean
 use Rattle.dd_meancycle.specs.declared.table.EdgeMean.TheVariants.{Least, NoCycle}
 use Rattle.dd_meancycle.specs.table.Walks.{IsWalk, AreAmong, edges_weight, AreEdgePotentials, AreEdgeRanks, natural_potential}
 
--- the cycle's mean is m / l in lowest terms, and the potentials show that no cycle has a smaller mean
+-- The cycle's mean is m / l in lowest terms, and the potentials show that no cycle has a smaller mean. The cycle's length and l are at most n, and
+-- each potential is at most m * n.
 pub record IsLeastMean (edges : List Edge) (n m l : ℕ) (cycle : List Edge) (ps : List ℕ) : Type 0 where
   pub among : AreAmong edges cycle
   pub at_state : ℕ

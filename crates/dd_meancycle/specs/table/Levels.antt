@@ -7,12 +7,12 @@ use Rattle.dd_meancycle.specs.declared.edges.Edge.{Edge}
 abbrev pub at : List (Option ℕ) → ℕ → Option ℕ
 at row v = slice_index_or row v None
 
--- the new value of an entry once another walk, of the weight x, is known
+-- the smaller of an entry and the weight x; if the entry is none, x
 abbrev pub lowered : Option ℕ → ℕ → Option ℕ
 lowered None x = Some x
 lowered (Some y) x = Some (min y x)
 
--- the row after the edge e has extended a walk of the given weight, if there is such a walk
+-- the row after a walk of the given weight is extended by the edge e; if no weight is given, the row stays as it is
 abbrev pub lower_at : Option ℕ → List (Option ℕ) → Edge → List (Option ℕ)
 lower_at None row e = row
 lower_at (Some a) row e = slice_set row e.to (lowered (at row e.to) (a + e.weight))
@@ -21,7 +21,7 @@ lower_at (Some a) row e = slice_set row e.to (lowered (at row e.to) (a + e.weigh
 abbrev pub relaxed : List (Option ℕ) → List (Option ℕ) → Edge → List (Option ℕ)
 relaxed previous row e = lower_at (at previous e.from) row e
 
--- the next row of the table
+-- the row of the table after the row `previous`
 abbrev pub level : List Edge → List (Option ℕ) → List (Option ℕ)
 level edges previous = fold (relaxed previous) (replicate (length previous) None) edges
 
@@ -30,7 +30,7 @@ abbrev pub row : List Edge → ℕ → ℕ → List (Option ℕ)
 row edges n zero = replicate n (Some 0)
 row edges n (suc k) = level edges (row edges n k)
 
--- the least weight of a walk of k edges to v
+-- the least weight of a walk of k edges to v, or none if there is no such walk
 abbrev pub least : List Edge → ℕ → ℕ → ℕ → Option ℕ
 least edges n k v = at (row edges n k) v
 

@@ -50,18 +50,18 @@ abbrev pub arrives : Option ℕ → ℕ → ℕ → Bool
 arrives None weight end = false
 arrives (Some a) weight end = (a + weight) == end
 
--- whether a lightest walk of the row `before`, followed by the edge e, leads to the state and has the weight `weight`
+-- whether a lightest walk of the row `before` to the source of the edge e, followed by e, leads to the state and has the weight `weight`
 abbrev pub is_back : List (Option ℕ) → ℕ → ℕ → Edge → Bool
 is_back before state weight e = (e.to == state) && arrives (at before e.from) e.weight weight
 
--- Compares two states by the greatest mean of their rises: the state in `best`, and `state`, for which this mean is h. r is the
--- one with the smaller mean. If there is no h, r is `best`; else, if there is no `best`, r is `state`.
+-- Compares two states by the greatest mean of their rises: the state in `best`, and `state`, for which this mean is h. The result r is the one with
+-- the smaller mean, and `best` if the means are equal. If there is no h, r is `best`; else, if there is no `best`, r is `state`.
 abbrev pub IsGentler : Option Steep → ℕ → Option Ratio → Option Steep → Type 0
 IsGentler best state None r = r ≡ best
 IsGentler None state (Some h) r = r ≡ Some (record { state = state; mean = h })
 IsGentler (Some o) state (Some h) r = ((r ≡ Some o) × (o.mean.weight * h.length ≤ h.weight * o.mean.length)) ⊎ ((r ≡ Some (record { state = state; mean = h })) × (h.weight * o.mean.length < o.mean.weight * h.length))
 
--- a longest walk to v has the weight `end`, and consists of a walk to a state on the cycle, then the cycle, then the rest
+-- A longest walk to v has the weight `end`. It consists of a lightest walk of `before` edges to a state on the cycle, then the cycle, then the rest.
 pub record IsCycleOnWalk (edges : List Edge) (n v end : ℕ) (cycle : List Edge) : Type 0 where
   pub at_state : ℕ
   pub before : ℕ

@@ -33,7 +33,8 @@ breaking_from r a k = filter (λ ss. does_break (outcome r a ss)) (drop k (words
 abbrev pub AreMarks : ℕ → ℕ → List Bool → List (List (Option ℕ)) → Type 0
 AreMarks m n marks ps = (ss : List ℕ) → IsWord m n ss → slice_index_or marks (number m ss) false ≡ is_covered ps ss
 
--- the first k fillings are done: the patterns found so far, followed by those that the later fillings still give, are the whole list
+-- The first k fillings are done. The patterns found so far, followed by those that the later fillings still give, are the whole list. A filling is
+-- marked exactly when it agrees with a pattern found so far.
 pub record IsListedTo (r : LocalRule) (a : ℕ) (k : ℕ) (found : List (List (Option ℕ))) (ms : List Bool) : Type 0 where
   pub whole : found ++ listed (thinned (is_enough r.symbols (outcomes r a))) found (breaking_from r a k) ≡
       listed (thinned (is_enough r.symbols (outcomes r a))) [] (breaking_from r a 0)

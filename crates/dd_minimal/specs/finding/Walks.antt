@@ -9,7 +9,7 @@ abbrev pub none_holds : ℕ → List ℕ → List Outcome → ℕ → Bool
 none_holds m [] table from = not (does_hold (slice_index_or table from Barred))
 none_holds m (d ∷ ds) table from = list_all (λ s. none_holds m ds table (from + s * d)) (range_with_len 0 m)
 
--- the list of marks, once it also marks all fillings of the walk
+-- the list of marks after all fillings of the walk have been marked too
 abbrev pub marked : ℕ → List ℕ → List Bool → ℕ → List Bool
 marked m [] marks from = slice_set marks from true
 marked m (d ∷ ds) marks from = fold (λ now s. marked m ds now (from + s * d)) marks (range_with_len 0 m)

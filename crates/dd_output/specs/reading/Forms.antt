@@ -26,7 +26,7 @@ both f g = record { read = then_at (λ bytes. before g.least (f.read bytes)) (λ
 abbrev pub after : {A : Type 0} → List ℕ → Form A → Form A
 after w f = record { read = after_at w f.least f.read; least = w ++ f.least }
 
--- the texts of the form f; the function h takes each value to the new value
+-- the texts of the form f; h makes the new value of a text from its value in f
 abbrev pub mapped : {A B : Type 0} → (A → B) → Form A → Form B
 mapped h f = record { read = map_at h f.read; least = f.least }
 

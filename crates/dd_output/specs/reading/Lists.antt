@@ -56,7 +56,7 @@ abbrev pub AtMost : Option ℕ → ℕ → Type 0
 AtMost None n = Unit {0}
 AtMost (Some most) n = n ≤ most
 
--- The two bytes that can end the number with index k, from 0. `end_at` is a space if more numbers have to follow, and a line feed
+-- The two bytes that can end the number with index k, from 0. They may be equal. `end_at` is a space if more numbers have to follow, and a line feed
 -- otherwise. `other_at` is a line feed if no more numbers may follow, and a space otherwise.
 abbrev pub end_at : ℕ → ℕ → ℕ
 end_at least k = cond (nat_lt (suc k) least) 32 10
@@ -90,7 +90,7 @@ minus_of n = (negsuc (n.0 - 1), n.1)
 abbrev pub plus_of : ℕ × ℕ → ℤ × ℕ
 plus_of n = (pos n.0, n.1)
 
--- a number from -`bound` to `bound`, and the byte that ends it; `rest` is the least text that has to follow
+-- a number from -`bound` to `bound`, and the byte that ends it, which is `end` or `other`; if reading stops, `rest` is missing after the byte `end`
 unfoldable pub signed_at : ℕ → ℕ → ℕ → List ℕ → List ℕ → Read (ℤ × ℕ)
 signed_at bound end other rest = choice_at 45
     (map_at minus_of (after_at (45 ∷ []) (49 ∷ end ∷ rest) (number_at 1 bound end other (λ _. rest))))

@@ -1,5 +1,5 @@
--- Readers. A reader takes bytes to the value with which they begin and the bytes after it, or else to the place where reading stops. The least
--- text of a value is the text that is missing if reading stops before anything of the value was read.
+-- Readers. A reader takes bytes to the value with which they begin and the bytes after it, or else to the place where reading stops. The comment on a
+-- reader names what it reads. The least text of a reader is the text that is missing if the reader stops before it has read anything.
 use Rattle.std.specs.Prelude.{◌≡◌, ℕ, zero, suc, ◌+◌, ◌*◌, ◌-◌, List, [], ◌∷◌, ◌++◌, length, take, drop, Result, Ok, Err, Bool, false, cond, ◌&&◌, ◌||◌, nat_lt, nat_le, ◌==◌, replicate}
 use Rattle.dd_output.specs.declared.fault.ReadFault.{ReadFault}
 use Rattle.dd_output.specs.declared.fault.ReadFault.TheVariants as faults
@@ -22,7 +22,7 @@ abbrev pub ◌>>=◌ : {A B : Type 0} → Result A Stop → (A → Result B Stop
 (Ok x) >>= f = f x
 (Err s) >>= f = Err s
 
--- the result of a reader, with this text to come after what is read: if the reader stops, this text is missing, too
+-- the result of a reader, if this text has to follow the value: where the reader stops, this text is missing, too
 abbrev pub before : {A : Type 0} → List ℕ → Result A Stop → Result A Stop
 before text (Ok x) = Ok x
 before text (Err s) = Err (stop s.left (s.missing ++ text))
@@ -37,7 +37,8 @@ abbrev pub Fails : {A : Type 0} → ReadFault → Result A Stop → Type 0
 Fails faults.Memory read = Unit {0}
 Fails (faults.Stopped count) read = StoppedAt count read
 
--- What a function of the code returns, seen through `view`, is what the reader gives, unless memory runs out.
+-- What a function of the code returns, seen through `view`, is what the reader gives, unless memory runs out. Where the reader stops, the function
+-- returns only how many bytes are left.
 abbrev pub Gives : {X A : Type 0} → (X → A) → Result X ReadFault → Result A Stop → Type 0
 Gives view (Ok x) read = read ≡ Ok (view x)
 Gives view (Err e) read = Fails e read
@@ -57,8 +58,8 @@ is_digit b = nat_le 48 b && nat_le b 57
 abbrev pub goes_on : ℕ → ℕ → ℕ → Bool
 goes_on bound n b = is_digit b && (nat_lt 0 n && nat_le (n * 10 + (b - 48)) bound)
 
--- A number and the byte that ends it, which is `end` or `other`. The digits that were read before have the value n. For each
--- number, `after` gives the least text that has to follow the number and the byte `end`.
+-- The rest of a number, and the byte that ends it, which is `end` or `other`. The digits that were read before have the value n. The number is at
+-- most `bound`. If reading stops, the byte `end` is missing, and then the text that `after` gives for the number read so far.
 abbrev pub digits_at : ℕ → ℕ → ℕ → (ℕ → List ℕ) → ℕ → List ℕ → Read (ℕ × ℕ)
 digits_at bound end other after n [] = Err (stop [] (end ∷ after n))
 digits_at bound end other after n (b ∷ bytes) =
@@ -87,11 +88,11 @@ bytes_at count bytes =
 abbrev pub then_at : {A B : Type 0} → (List ℕ → Read A) → (A → List ℕ → Read B) → List ℕ → Read (A × B)
 then_at first second bytes = first bytes >>= λ a. second a.0 a.1 >>= λ b. Ok ((a.0, b.0), b.1)
 
--- a word and a value; `least` is the least text of a value
+-- a word, and then what `read` reads; `least` is the least text of `read`
 abbrev pub after_at : {A : Type 0} → List ℕ → List ℕ → (List ℕ → Read A) → List ℕ → Read A
 after_at word least read bytes = before least (word_at word bytes) >>= λ x. read x.1
 
--- what `read` reads; the function f takes its value to the new value
+-- what `read` reads; f makes the new value from the one that `read` gives
 abbrev pub map_at : {A B : Type 0} → (A → B) → (List ℕ → Read A) → List ℕ → Read B
 map_at f read bytes = read bytes >>= λ x. Ok (f x.0, x.1)
 
@@ -100,12 +101,12 @@ abbrev pub copies : ℕ → List ℕ → List ℕ
 copies zero text = []
 copies (suc n) text = text ++ copies n text
 
--- n values, one after another; `least` is the least text of a value
+-- n values, one after another, each read by `one`; `least` is the least text of `one`
 abbrev pub many_at : {A : Type 0} → (List ℕ → Read A) → List ℕ → ℕ → List ℕ → Read (List A)
 many_at one least zero bytes = Ok ([], bytes)
 many_at one least (suc n) bytes = map_at (λ p. p.0 ∷ p.1) (then_at (λ b. before (copies n least) (one b)) (λ _. many_at one least n)) bytes
 
--- an item of a list, or what ends the list
+-- an entry of a list: an item, or the last entry, which ends the list
 pub data Entry (A B : Type 0) : Type 0 where
   item : A → Entry A B
   last : B → Entry A B
@@ -120,7 +121,7 @@ abbrev pub until_at : {A B : Type 0} → (ℕ → List ℕ → Read (Entry A B))
 until_at entry k zero bytes = Err (stop bytes [])
 until_at entry k (suc fuel) bytes = entry k bytes >>= next_at (until_at entry (suc k) fuel)
 
--- the same without `fuel`, since there are no more entries than bytes
+-- the entries from index k on, up to the one that ends the list; the fuel suffices if each item has at least one byte
 abbrev pub entries_at : {A B : Type 0} → (ℕ → List ℕ → Read (Entry A B)) → ℕ → List ℕ → Read (List A × B)
 entries_at entry k bytes = until_at entry k (suc (length bytes)) bytes
 

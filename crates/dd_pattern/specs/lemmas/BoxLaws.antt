@@ -23,7 +23,7 @@ base_of-origin p x y z =
 pub origin_in_box : (t : Tile) (a : ℕ) → IsTile t → a < t.nodes → IsInBox t (cell (place (pos 0) (pos 0) (pos 0)) a)
 origin_in_box t a tile node = record { base = base_of-origin t.periods tile.periods.x_some tile.periods.y_some tile.periods.z_some; node = node }
 
--- the index of the cell at v with node a belongs, in the fundamental box, to the cell at the base of v with node a
+-- take the index of the cell at v with node a: the cell of the fundamental box with this index is the cell at the base of v with node a
 pub cell_at_index : (t : Tile) → IsTile t → (v : Place) (a : ℕ) → a < t.nodes → cell_in t (tile_index t (cell v a)) ≡ cell (base_of t.periods v) a
 cell_at_index t ok v a h =
     let x_in = residue_below (unsheared t.periods v) t.periods.x ok.periods.x_some in
@@ -87,7 +87,8 @@ record Tells (o : Ordering) (a b : ℕ) : Type 0 where
   less : o ≡ Less → a < b
   equal : o ≡ Equal → a ≡ b
 
--- the order of pairs by their first number and then by their second is the order of their places in a table with rows of length w
+-- two entries of a table with rows of length w are at row a, column x and at row b, column y: if o tells how the rows compare, and p how the columns
+-- do, then `ordering_then o p` tells how the numbers of the entries compare, where the table is numbered row by row
 then_tells : (o p : Ordering) (a b x y w : ℕ) → x < w → Tells o a b → Tells p x y → Tells (ordering_then o p) (a * w + x) (b * w + y)
 then_tells Less p a b x y w xw first second =
     record { less = λ h. (let below : a < b = first.less refl in omega (arith, mul-add-lt a w x b below xw)); equal = λ h. absurd (cc) }

@@ -9,7 +9,7 @@ use Rattle.dd_pattern.specs.Periods.{ArePeriodsIn, residue, quotient, unsheared,
 use Rattle.dd_pattern.specs.Tile.{Tile, IsTile, IsPeriodic, Times, with_vectors, IsCongruent, IsReadModulo, tile_index, tile_look, fundamental}
 use Rattle.dd_pattern.specs.lemmas.Residues.{residue_below, residue_small, residue_added, quotient_added, quotient_small, scaled, scaled_added, meets}
 
--- the base of v is reached by subtracting a multiple of the second period vector, so that y lies in the box, and then multiples of the others
+-- v is congruent to its base: a multiple of the second period vector brings y into the box, and multiples of the others then bring x and z into it
 congruent_base : (d : ℕ) (p : Periods) → ArePeriodsIn d p → (v : Place) → IsCongruent p v (base_of p v)
 congruent_base d p ok v =
     let x = meets (unsheared p v) p.x ok.x_some in
@@ -74,7 +74,7 @@ look_same t v w a h = ap (λ i. cond (nat_lt a t.nodes) (slice_get t.symbols i) 
 read_at_base : (t : Tile) → IsTile t → (c : Cell) → tile_look t c ≡ tile_look t (cell (base_of t.periods c.position) c.node)
 read_at_base t ok c = look_same t c.position (base_of t.periods c.position) c.node (sym (base_again t.dimension t.periods ok.periods c.position))
 
--- on an axis of the fundamental box, the residue of a coordinate is the coordinate itself, and so its distance from the low end
+-- a coordinate c from 0 to n - 1 is its own residue modulo n, and this is its distance from 0
 coordinate_is : (c : ℤ) (n : ℕ) → pos 0 ≤ℤ c → c ≤ℤ pos (n - 1) → 0 < n → residue c n ≡ gap (pos 0) c
 coordinate_is (pos k) n low high some = residue_small k n (omega (arith, ints)) ∙ omega (arith, ints)
 coordinate_is (negsuc k) n low high some = absurd (omega (arith, ints))

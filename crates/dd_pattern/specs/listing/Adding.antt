@@ -18,7 +18,7 @@ pub record HasShear (n x y z : ℕ) (q : Periods) : Type 0 where
   pub at_z : q.z ≡ z
   pub shear : q.shear < n
 
--- f picks one of x, y and z: this period of q is from 1 to n, and q satisfies F for this period
+-- f picks one of the periods x, y and z of q. The picked period k is from 1 to n, and q satisfies F k
 pub record IsPeriodUpTo (F : ℕ → Periods → Type 0) (f : Periods → ℕ) (n : ℕ) (q : Periods) : Type 0 where
   pub rest : F (f q) q
   pub some : 1 ≤ f q

@@ -1,4 +1,4 @@
--- The clauses of a box say what the question asks about it.
+-- The clauses of a box say what the question asks about the box.
 use Rattle.std.proofs.Common.{◌≡◌, ℕ, ◌<◌, Bool, true, false, List, map, length, get_or, refl, ap, sym, subst, ◌∙◌, arith, Some, None}
 use Rattle.std.proofs.lemmas.{Bool.and_parts, Bool.and_from, Bool.ltb-true, List.length-map}
 use Rattle.std.proofs.lemmas.Option.{slice_get-map, slice_get-get_or, get_or_from_slice_get}
@@ -37,8 +37,7 @@ box_is_wired x g n rule ok reach =
     (λ k d is. ltb-true d.node x.nodes (and_parts (in_box x.dimension n d.position) (nat_lt d.node x.nodes) (box_cell_at x n k d is).0).1)
     (goal_reads_box x g n ok reach) (box_values x n rule g ok reach)
 
--- a look-up whose domain is the box is admissible exactly when the premise is true at all places of the layout where the premise
--- fits, that is, where all that it reads is in the layout
+-- a filling of the box is admissible exactly when the premise is true at all places where it fits
 holds_from_admissible : (x : LocalRule) (n : ℕ) (look : Look) → IsBoxFilling x n look → Admissible x look → premise_holds (box_layout x n) x look ≡ true
 holds_from_admissible x n look filling ok =
     filter_all (λ d. is_true x d look) (fits_in (box_layout x n) x) (box_cells x n) (λ k d is fit.
@@ -60,7 +59,7 @@ admissible_from_holds x n look filling holds v a flat node fit =
 some_within : (symbols : List ℕ) (i : ℕ) → i < length symbols → is_some (slice_get symbols i) ≡ true
 some_within symbols i h = ap is_some (slice_get-get_or symbols i 0 h)
 
--- the look-up that a list of symbols gives is a filling of the box
+-- the look-up that a list of allowed symbols gives is a filling of the box
 pub look_is_filling : (x : LocalRule) (n : ℕ) (symbols : List ℕ) → AreSymbols x (box_cells x n) symbols → IsBoxFilling x n (layout_look (box_layout x n) symbols)
 look_is_filling x n symbols ok = record {
   domain = λ c.

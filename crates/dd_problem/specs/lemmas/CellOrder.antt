@@ -16,7 +16,7 @@ use Rattle.dd_lattice.specs.lemmas.PositionLaws.{first_ascending}
 use Rattle.dd_boxes.specs.Cells.{cells_on}
 use Rattle.dd_problem.specs.{Layouts.nth_cell, Layouts.cells_in, lemmas.Filtered.slice_of_range}
 
--- a fact about each number of a range
+-- what holds for each number from a to a + n - 1 holds for all members of this range
 pub All-range : (P : ℕ → Type 0) (n a : ℕ) → ((k : ℕ) → a ≤ k → k < a + n → P k) → All P (range_with_len a n)
 All-range P zero a h = All-nil P
 All-range P (suc n) a h = All-cons P a (range_with_len (a + 1) n) (h a (omega arith) (omega arith)) (All-range P n (a + 1) (λ k low high. h k (omega arith) (omega arith)))
@@ -120,11 +120,11 @@ cells_ascending b m o some =
 pub length-cells_in : (b : Bounds) (m : ℕ) → length (cells_in b m) ≡ volume b * m
 length-cells_in b m = ap length (cells_by_number b m) ∙ length-map-range_with_len (nth_cell b m) 0 (volume b * m)
 
--- the cell with a number
+-- the item of the list at index k is the cell with the number k
 pub cell_at_number : (b : Bounds) (m k : ℕ) → k < volume b * m → slice_get (cells_in b m) k ≡ Some (nth_cell b m k)
 cell_at_number b m k below = ap (λ cs. slice_get cs k) (cells_by_number b m) ∙ slice_of_range (nth_cell b m) (volume b * m) k below
 
--- a cell stands at its number
+-- a cell of the box stands at its number
 pub cell_there : (b : Bounds) (m : ℕ) (c : Cell) → IsWithin b c.position → c.node < m → slice_get (cells_in b m) (index_in b c.position * m + c.node) ≡ Some c
 cell_there b m c within node =
     let low = mul-add-lt (index_in b c.position) m c.node (volume b) (index_below b c.position within) node in

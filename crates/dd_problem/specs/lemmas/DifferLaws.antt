@@ -14,7 +14,7 @@ use Rattle.dd_compile.specs.lemmas.{MadeSays.last_gate, MadeSays.opposite_value,
 use Rattle.dd_problem.specs.Differing.{apart, differ_made}
 use Rattle.dd_values.specs.lemmas.Booleans.{same_from_beq}
 
--- at each place, whether the first list has true and the second has false
+-- at each index, whether the first list has true and the second has false
 abbrev each_apart : List Bool → List Bool → List Bool
 each_apart [] bs = []
 each_apart (a ∷ us) [] = []
@@ -128,7 +128,7 @@ module _ (k : ℕ) (f g : Automaton) (w : Wiring) (at : Cell) (n : ℕ) where
         from_zero : (t : ℕ) → t ≡ 0 + t
         from_zero t = omega arith
 
-    -- each gate that tells the values apart is over earlier variables
+    -- the gates of both values, and those that tell them apart, are over earlier variables
     pub differ_fits : AreGates n (differ_made k f g w at n).gates
     differ_fits =
         let so_far = AreGates-append n left right first.gates next.gates in

@@ -7,7 +7,7 @@ use Rattle.std.specs.List.{list_all, filter, range_with_len}
 use Rattle.dd_clause.specs.Clauses.{is_clause_true}
 use Rattle.dd_cnf.specs.{Encoding.literal, Models.is_satisfied}
 
--- the item at place k of a list that is made from a range
+-- the item at index k of a list that is made from a range
 pub slice_of_range : {X : Type 0} (f : ℕ → X) (n k : ℕ) → k < n → slice_get (map f (range_with_len 0 n)) k ≡ Some (f k)
 slice_of_range f n k h =
     slice_get_read (map f (range_with_len 0 n)) n k (f k) (sym (length-map-range_with_len f 0 n)) h (sym (get_or-map-range_with_len f 0 n k k (f k) h (omega arith)))
@@ -16,11 +16,11 @@ pub some_same : {A : Type 0} (a b : A) → Some a ≡ Some b → a ≡ b
 some_same a b h = cc
 
 module _ {X : Type 0} where
-  -- all members of a filtered list pass a test exactly when the test holds for each member of the whole list that the filter keeps
   filter_step : (p : X → Bool) (d : X) (b : Bool) (rest : List X) → (b ≡ true → p d ≡ true) → list_all p rest ≡ true → list_all p (cond b (d ∷ rest) rest) ≡ true
   filter_step p d true rest here there = rw (here refl, there) refl
   filter_step p d false rest here there = there
 
+  -- if each member that the filter q keeps passes the test p, all members of the filtered list pass it
   pub filter_all : (p q : X → Bool) (xs : List X) → ((k : ℕ) (d : X) → slice_get xs k ≡ Some d → q d ≡ true → p d ≡ true) → list_all p (filter q xs) ≡ true
   filter_all p q [] h = refl
   filter_all p q (d ∷ xs) h = filter_step p d (q d) (filter q xs) (h 0 d refl) (filter_all p q xs (λ k e is. h (suc k) e is))
@@ -29,6 +29,7 @@ module _ {X : Type 0} where
   filter_from p d true rest h = let both = and_parts (p d) (list_all p rest) h in ((λ _. both.0), both.1)
   filter_from p d false rest h = ((λ e. absurd (cc)), h)
 
+  -- the converse: if all members of the filtered list pass p, so does each member that q keeps
   pub filter_at : (p q : X → Bool) (xs : List X) (k : ℕ) (d : X) → list_all p (filter q xs) ≡ true → slice_get xs k ≡ Some d → q d ≡ true → p d ≡ true
   filter_at p q [] k d h is fit = absurd (cc)
   filter_at p q (c ∷ xs) zero d h is fit =

@@ -13,8 +13,8 @@ use Rattle.dd_problem.specs.{Layouts.Layout, Clauses.part_gates}
 use Rattle.dd_problem.specs.Problems.{wire, place_maker, premise_part, goal_part}
 use Rattle.dd_problem.specs.Differing.{apart, differ_made}
 
--- A bound on the number of gates of a rule at a cell: the number of the gates' clauses. Then the same for several cells, and for
--- several nodes of one position.
+-- A bound on the number of gates of a rule at a cell: the number of the gates' clauses. The next lemmas bound the gates at
+-- several cells, and at several nodes of the origin, by the sum of these numbers.
 abbrev pub at_cell : LocalRule → Cell → ℕ
 at_cell r d = clause_count (expansion_at r d.node)
 
@@ -56,7 +56,7 @@ apart_few [] ys = omega arith
 apart_few (x ∷ xs) [] = omega arith
 apart_few (x ∷ xs) (y ∷ ys) = let rest = apart_few xs ys in omega (arith, rest)
 
--- the gates that tell two values apart
+-- the gates of two values, and those that tell them apart, are at most as many as their clauses
 two_values : (k : ℕ) (f g : Automaton) (w : Wiring) (at : Cell) (n : ℕ) → length (differ_made k f g w at n).gates ≤ differ_at k f g at.node
 two_values k f g w at n =
     let first = value_made k f w at n in

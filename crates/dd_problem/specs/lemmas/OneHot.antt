@@ -72,7 +72,7 @@ hot_step true set vs s d any most h same =
     none_at set vs s d (not_true (list_any set vs) both.0) h ∙ sym (not_equal 0 (suc s) (λ e. omega (arith, e)))
 hot_step false set vs s d any most h same = same any most ∙ later_place (position_or_len set vs) s
 
--- a variable is true exactly when its place is that of the one true variable
+-- if exactly one variable is true, a variable is true exactly when its index is that of the true one
 pub hot_at : (set : ℕ → Bool) (vs : List ℕ) (s d : ℕ) → list_any set vs ≡ true → at_most_one set vs ≡ true → s < length vs → set (get_or vs s d) ≡ (position_or_len set vs == s)
 hot_at set [] s d any most h = absurd (omega arith)
 hot_at set (v ∷ vs) zero d any most h = first_place (set v) (position_or_len set vs)
@@ -90,7 +90,7 @@ pub hot_below : (set : ℕ → Bool) (vs : List ℕ) → list_any set vs ≡ tru
 hot_below set [] any = absurd (cc)
 hot_below set (v ∷ vs) any = below_step (set v) (position_or_len set vs) (length vs) (λ f. hot_below set vs (any_rest (set v) (list_any set vs) any f))
 
--- if only the variable with the number t may be true, and t is below the range, then no variable of the range is true
+-- if only the variable with the number t may be true, and t is below the range, then no variable of the range is true, and so at most one is
 pub cold_made : (set : ℕ → Bool) (f : ℕ → ℕ) (t n a : ℕ) → ((s : ℕ) → a ≤ s → s < a + n → set (f s) ≡ (t == s)) → t < a →
     (list_any set (map f (range_with_len a n)) ≡ false) × (at_most_one set (map f (range_with_len a n)) ≡ true)
 cold_made set f t zero a says low = (refl, refl)
@@ -99,7 +99,7 @@ cold_made set f t (suc n) a says low =
     let first : set (f a) ≡ false = says a (omega arith) (omega arith) ∙ not_equal t a (omega (arith, low)) in
     (rw (first, rest.0) refl, rw (first, rest.1) refl)
 
--- the converse of `hot_at`: if exactly the variable with the number t is true, then some variable is true, at most one is, and t is its number
+-- the converse of `hot_at`: if exactly the variable with the number t is true, some variable is, at most one is, and its index in the list is t - a
 pub hot_made : (set : ℕ → Bool) (f : ℕ → ℕ) (t n a : ℕ) → ((s : ℕ) → a ≤ s → s < a + n → set (f s) ≡ (t == s)) → a ≤ t → t < a + n →
     (list_any set (map f (range_with_len a n)) ≡ true) × (at_most_one set (map f (range_with_len a n)) ≡ true) × (a + position_or_len set (map f (range_with_len a n)) ≡ t)
 hot_made set f t zero a says low high = absurd (omega arith)

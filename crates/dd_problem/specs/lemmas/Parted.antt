@@ -29,7 +29,7 @@ InputsTell set l m look = (c : Cell) (s : ℕ) → l.has c ≡ true → s < m �
 abbrev pub IsNumbered : Layout → Type 0
 IsNumbered l = (c : Cell) → l.has c ≡ true → l.index c < length l.places
 
--- what a leaf asks for has an input
+-- a leaf with the cell c, relative to v, and the symbol s has its input: c has inputs, and s is one of the m symbols
 abbrev pub has_input : Layout → ℕ → Place → Cell → ℕ → Bool
 has_input l m v c s = l.has (shifted v c) && nat_lt s m
 
@@ -120,7 +120,7 @@ abbrev pub job_reads : Layout → LocalRule → GoalOf → Option Cell → Bool
 job_reads l x g (Some d) = reads_inputs l x.symbols x d
 job_reads l x g None = goal_reads l x.symbols g
 
--- the nodes of the origin at which two values are different
+-- the signals say at which nodes of the origin two values are different
 differ_nodes : (set : ℕ → Bool) (l : Layout) (m : ℕ) (s : CommonNumbers) (f g : Automaton) (look : Look) → IsNumbered l → AreValuesWired l m s f g → HasSymbolsBelow s.symbols look → InputsTell set l m look →
     (k j n : ℕ) → j + k ≤ s.nodes → length l.places * m ≤ n → agrees set n (all_made (map (differ_at l s f g) (range_with_len j k)) n).gates ≡ true →
     map (signal_value set) (all_made (map (differ_at l s f g) (range_with_len j k)) n).signals ≡

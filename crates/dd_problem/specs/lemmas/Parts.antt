@@ -28,7 +28,8 @@ parts_law set n (p ∷ ps) =
     ∙ (rw (gates_law set n gs, list_all-append (is_clause_true set) ts (part_clauses m ps), parts_law set m ps, agrees-append set n gs (part_gates m ps))
     (four (agrees set n gs) (is_satisfied set ts) (agrees set m (part_gates m ps)) (tests set m ps)))
 
--- if the part's gates, made after m or more variables, agree with `set`, the clauses over their signals have the truth value b
+-- If the part's gates, made after m or more variables, agree with the assignment `set` (it gives each gate's variable the
+-- gate's value), the part's clauses over its signals have the truth value b.
 abbrev pub PartSays : (ℕ → Bool) → ℕ → Part → Bool → Type 0
 PartSays set m p b = (n : ℕ) → m ≤ n → agrees set n (made_by p n).gates ≡ true → is_satisfied set (p.tail (made_by p n).signals) ≡ b
 

@@ -40,7 +40,7 @@ pairs_step all now new w end h so_far pushed =
     let rest = range_to (w + 1) end in
     so_far ∙ (ap (λ r. now ++ pairs r) (range_step w end h) ∙ rw pushed (sym (append_assoc now (map (λ o. literal w false ∷ literal o false ∷ []) rest) (pairs rest))))
 
--- if a range of variables lies in 1..n, their literals are in range
+-- if a range of variables lies in 1..n, their positive literals are over the variables 1..n
 pub range_in_range : (n from k : ℕ) → 1 ≤ from → from + k ≤ n + 1 → All (IsLiteralInRange n) (map (λ v. literal v true) (range_with_len from k))
 range_in_range n from zero low high = λ i d h. absurd (omega arith)
 range_in_range n from (suc k) low high =

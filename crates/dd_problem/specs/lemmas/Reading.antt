@@ -29,7 +29,7 @@ read_symbol set m k = position_or_len set (inputs_of m k)
 abbrev pub read_symbols : (ℕ → Bool) → ℕ → ℕ → List ℕ
 read_symbols set m n = map (read_symbol set m) (range_with_len 0 n)
 
--- the clauses of one cell are among those of all
+-- an assignment that satisfies the clauses of all cells satisfies those of each cell
 cell_at : (set : ℕ → Bool) (x : LocalRule) (cells : List Cell) (a k : ℕ) (d : Cell) → is_satisfied set (clauses_from x a cells) ≡ true → slice_get cells k ≡ Some d →
     is_satisfied set (symbol_clauses x (a + k) d.node) ≡ true
 cell_at set x [] a k d ok is = absurd (cc)
@@ -46,7 +46,7 @@ cell_at set x (c ∷ cells) a (suc k) d ok is =
     let later : a + 1 + k ≡ a + suc k = omega arith in
     subst (λ j. is_satisfied set (symbol_clauses x j d.node) ≡ true) later (cell_at set x cells (a + 1) k d both.1 is)
 
--- the parts of the clauses of one cell
+-- the two kinds of clauses of one cell: that it has one symbol, and that it has none that its node doesn't allow
 module _ (set : ℕ → Bool) (x : LocalRule) (cells : List Cell) (ok : is_satisfied set (cell_clauses x cells) ≡ true) (k : ℕ) (d : Cell) (is : slice_get cells k ≡ Some d) where
   abbrev hot : List (List Literal)
   hot = one_hot (inputs_of x.symbols k)

@@ -1,4 +1,4 @@
--- The clauses of a torus say what the question asks about the configurations of its periods.
+-- The clauses of a torus say what the question asks about the torus's configurations.
 use Rattle.std.proofs.Common.{◌≡◌, ℕ, ◌<◌, Bool, true, List, length, get_or, refl, ap, sym, subst, ◌∙◌, arith, Some}
 use Rattle.std.proofs.lemmas.Bool.{and_parts, ltb-true, lt-ltb}
 use Rattle.std.proofs.lemmas.Option.{slice_get-get_or, slice_get_within}

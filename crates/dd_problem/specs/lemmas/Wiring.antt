@@ -75,7 +75,7 @@ test_from_goal (differ s f g) look h =
     not_same u v apart false is = ap not is
 test_from_goal always look h = refl
 
--- a rule's leaves ask for symbols of the alphabet, at the cells that it reads
+-- if each cell that a rule reads at d has inputs, each leaf of the rule there has its input
 place_reads : (l : Layout) (m : ℕ) (r : LocalRule) (d : Cell) → IsRule r → m ≡ r.symbols → d.node < r.nodes → list_all (λ c. l.has (shifted d.position c)) (reads_at r d.node) ≡ true →
     reads_inputs l m r d ≡ true
 place_reads l m r d ok same node there =

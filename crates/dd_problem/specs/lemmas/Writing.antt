@@ -90,7 +90,7 @@ cells_written set x cells symbols ok read =
 pub input_in_range : (k s m n : ℕ) → k < n → s < m → (1 ≤ input m k s) × (input m k s ≤ n * m)
 input_in_range k s m n h l = let below = within_inputs k s m n h l in (omega arith, omega arith)
 
--- the gates of the parts are over the inputs and earlier gates
+-- The gates of a rule at a cell are over the inputs and earlier gates. The same holds of the rule at several nodes, of the goal, and of each part.
 place_fits : (l : Layout) (m : ℕ) (r : LocalRule) (d : Cell) (n : ℕ) → IsLayout l → length l.places * m ≤ n → reads_inputs l m r d ≡ true → AreGates n (place_maker l m r d n).gates
 place_fits l m r d n ok le wired =
     (made_fits (expansion_at r d.node) (wire l m d.position) (has_input l m d.position) (length l.places * m) n

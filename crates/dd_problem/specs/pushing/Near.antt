@@ -33,7 +33,7 @@ numbered_tile x periods = tile x.dimension periods x.nodes (range_with_len 0 (pe
 abbrev pub torus_inputs : LocalRule → GoalOf → Periods → Wiring
 torus_inputs x g periods = numbered_by x.symbols (numbered_tile x periods) (near_cells x g (torus_cells x periods))
 
--- the layout of the torus: every cell has the number of the cell of the fundamental box that it equals modulo the periods
+-- the layout of the torus: each cell with one of the rule's nodes has the number of the cell of the fundamental box that it equals modulo the periods
 abbrev pub torus_layout : LocalRule → GoalOf → Periods → Layout
 torus_layout x g periods = record {
   has = λ c. nat_lt c.node x.nodes;

@@ -5,11 +5,11 @@ use Rattle.dd_circuit.specs.{declared.gates.Signal.Signal, Circuits.signal_of}
 use Rattle.dd_compile.specs.Wiring.{Wiring}
 use Rattle.dd_problem.specs.Clauses.{input}
 
--- the signals of the cell with the number k: for each of m symbols, one that says that the cell has this symbol
+-- the signals of the number k, that is, of the cell with this number: for each of m symbols, one that says that the cell has this symbol
 abbrev pub symbol_signals : ℕ → ℕ → List Signal
 symbol_signals m k = map (λ s. signal_of (input m k s)) (range_with_len 0 m)
 
--- each cell with the signals of the number that stands at the same place in the second list
+-- each cell with the signals of the number that stands at the same index in the second list
 abbrev pub numbered_wiring : ℕ → List Cell → List ℕ → Wiring
 numbered_wiring m cells numbers = record { cells = cells; signals = map (symbol_signals m) numbers }
 

@@ -24,34 +24,34 @@ HasAllSymbols m w = (c : Cell) (signals : List Signal) → signals_of w c ≡ So
 abbrev pub is_wired_at : Wiring → ℕ → LocalRule → Cell → Bool
 is_wired_at w n x d = are_wired n (wires_near w d.position) (expansion_at x d.node)
 
--- the rule is true at the cell
+-- the part that says that the rule is true at the cell
 abbrev pub wired_part : Wiring → LocalRule → Cell → Part
 wired_part w x d = record { makers = compiled w d.position (expansion_at x d.node) ∷ []; tail = units }
 
--- the premise is true at each of the cells where it is wired
+-- for each of the cells where the rule is wired, the part that says that it is true there
 abbrev pub wired_parts : Wiring → ℕ → LocalRule → List Cell → List Part
 wired_parts w n x cells = map (wired_part w x) (filter (is_wired_at w n x) cells)
 
--- the rule is false at some node of the position
+-- the part that says that the rule is false at some node of the position
 abbrev pub broken_part : Wiring → LocalRule → Place → Part
 broken_part w y v = record { makers = map (λ a. compiled w v (expansion_at y a)) (range_with_len 0 y.nodes); tail = some_false }
 
--- the values of two automata are different at some node of the origin
+-- the part that says that the values of two automata are different at some node of the origin
 abbrev pub differ_part : Wiring → CommonNumbers → Automaton → Automaton → Part
 differ_part w s f g = record { makers = map (λ a. differ_made s.symbols f g w (cell origin a)) (range_with_len 0 s.nodes); tail = some_true }
 
--- the goal holds at the origin
+-- the part that says that the goal holds at the origin
 abbrev pub wired_goal : Wiring → GoalOf → Part
 wired_goal w (breaks y) = broken_part w y origin
 wired_goal w (differ s f g) = differ_part w s f g
 wired_goal w always = record { makers = []; tail = λ _. [] }
 
--- each cell that either automaton reads at the node a of the origin has its signals, whose variables are among the first n
+-- both automata are wired at the node a of the origin: each cell that they read there has its signals, whose variables are among the first n
 abbrev pub are_both_wired : Wiring → ℕ → CommonNumbers → Automaton → Automaton → ℕ → Bool
 are_both_wired w n s f g a =
     are_wired_there n s.symbols w ((counted f).reads a) (cell origin a) && are_wired_there n s.symbols w ((counted g).reads a) (cell origin a)
 
--- the goal is wired: all that it reads at the origin has its signals, whose variables are among the first n
+-- the goal is wired: at each node of the origin, its rule is wired, or both its automata are
 abbrev pub is_goal_wired : Wiring → ℕ → GoalOf → Bool
 is_goal_wired w n (breaks y) = list_all (λ a. is_wired_at w n y (cell origin a)) (range_with_len 0 y.nodes)
 is_goal_wired w n (differ s f g) = list_all (are_both_wired w n s f g) (range_with_len 0 s.nodes)

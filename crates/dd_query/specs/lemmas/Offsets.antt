@@ -1,4 +1,4 @@
--- Vectors with an entry for each axis, none of them over 4 in absolute value, are offsets of edges.
+-- A vector with an entry for each axis may be the offset of an edge, if no entry is over 4 in absolute value.
 use Rattle.std.proofs.Common.{◌≡◌, ◌≤◌, ℕ, true, false, List, Option, Some, None, length, refl, subst, arith}
 use Rattle.std.proofs.lemmas.Bool.{eqb-true, ltb-false, lt-ltb, le-leb, and_from}
 use Rattle.std.proofs.lemmas.{Int.ints, Option.slice_get_within, Map.Keys.any_passes_from_place}
@@ -23,7 +23,7 @@ on_axis bytes v axis close = le-leb _ _ (by (slice_get v.entries axis) refl)
     by None is = omega (arith, ints)
     by (Some e) is = rw (lt-ltb axis (length v.entries) (slice_get_within v.entries axis e is)) (close_entry bytes e (near_at bytes v.entries axis e close is))
 
--- a vector with an entry for each axis, none of them over 4 in absolute value, is an offset
+-- a vector with an entry for each axis is an offset, if no entry is over 4 in absolute value
 pub offset_is : (bytes : List ℕ) (d : ℕ) (v : Vector) → is_far bytes v ≡ false → has_entries d v ≡ true → is_offset d (place_of bytes v) ≡ true
 offset_is bytes d v close all =
     subst (λ (n : ℕ). is_offset n (place_of bytes v) ≡ true) (eqb-true (length v.entries) d all)

@@ -17,7 +17,8 @@ pub data AreYes (l : Limits) (c : ConjugacyOf) : ℕ → List ℕ → List (List
   one_more : {k n : ℕ} {s : List Step} {ns : List ℕ} {ss : List (List Step)} → AreYes l c k ns ss → ComesTo l c k (decision.Yes n s) →
       AreYes l c (suc k) (ns ++ n ∷ []) (ss ++ s ∷ [])
 
--- no question with a smaller number than this one is answered NO: all are answered YES, or some question is left open
+-- No question with a smaller number than this one is answered NO: all are answered YES, or some question is left open. An output can hold each radius
+-- and the steps of each YES.
 pub record AreFound (l : Limits) (c : ConjugacyOf) (number : ℕ) (f : Findings) : Type 0 where
   pub none : (k : ℕ) → 1 ≤ k → k < number → IsNoAt l c k → ⊥
   pub yes : f.is_open ≡ false → AreYes l c number f.radii f.steps

@@ -29,22 +29,22 @@ filter_agree P p q same (x ∷ xs) all =
     ap (λ b. cond b (x ∷ filter p xs) (filter p xs)) (same x (all_first P x xs all))
     ∙ ap (λ ys. cond (q x) (x ∷ ys) ys) (filter_agree P p q same xs (all_rest P x xs all))
 
--- two tests that agree on the items that pass a third test
 agree_where : {X : Type 0} (p q : X → Bool) (x : X) (rest : List X) (b : Bool) → (b ≡ true → p x ≡ q x) → list_all p rest ≡ list_all q rest →
     list_all p (cond b (x ∷ rest) rest) ≡ list_all q (cond b (x ∷ rest) rest)
 agree_where p q x rest true here more = ap (λ b. b && list_all p rest) (here refl) ∙ ap (λ b. q x && b) more
 agree_where p q x rest false here more = more
 
+-- two tests that agree on the items that pass a third test
 pub list_all_where : {X : Type 0} (p q t : X → Bool) → ((x : X) → t x ≡ true → p x ≡ q x) → (xs : List X) → list_all p (filter t xs) ≡ list_all q (filter t xs)
 list_all_where p q t same [] = refl
 list_all_where p q t same (x ∷ xs) = agree_where p q x (filter t xs) (t x) (same x) (list_all_where p q t same xs)
 
--- items that give the empty list may be left out
 step_kept : {X Y : Type 0} (f g : X → List Y) (x : X) (b : Bool) (xs : List X) (rest : List Y) → f x ≡ cond b (g x) [] → rest ≡ flat_map g xs →
     f x ++ rest ≡ flat_map g (cond b (x ∷ xs) xs)
 step_kept f g x true xs rest is more = ap (λ ys. ys ++ rest) is ∙ ap (λ ys. g x ++ ys) more
 step_kept f g x false xs rest is more = ap (λ ys. ys ++ rest) is ∙ more
 
+-- items that give the empty list may be left out
 pub flat_map_filter : {X Y : Type 0} (P : X → Type 0) (q : X → Bool) (f g : X → List Y) → ((x : X) → P x → f x ≡ cond (q x) (g x) []) →
     (xs : List X) → All P xs → flat_map f xs ≡ flat_map g (filter q xs)
 flat_map_filter P q f g same [] all = refl
@@ -81,11 +81,11 @@ pub list_all_true : {X : Type 0} (p : X → Bool) (xs : List X) → All (λ x. p
 list_all_true p [] h = refl
 list_all_true p (x ∷ xs) h = and_from (p x) (list_all p xs) (all_first (λ y. p y ≡ true) x xs h) (list_all_true p xs (all_rest (λ y. p y ≡ true) x xs h))
 
--- the length of the prefix that passes a test, if only the first items of the list are kept
 prefix_step : (b : Bool) (j n m : ℕ) → n ≡ min j m → cond b (1 + n) 0 ≡ min (suc j) (cond b (1 + m) 0)
 prefix_step true j n m is = omega (arith, is)
 prefix_step false j n m is = omega arith
 
+-- the length of the prefix that passes a test, if only the first items of the list are kept
 pub prefix_of_take : {X : Type 0} (p : X → Bool) (j : ℕ) (xs : List X) → prefix_len p (take j xs) ≡ min j (prefix_len p xs)
 prefix_of_take p zero [] = omega arith
 prefix_of_take p (suc j) [] = omega arith

@@ -117,11 +117,11 @@ same_truth x all j ss s d size fits =
     keeps_at x look more d.position d.position d.node (λ c h. same_symbol all j ss s (shifted d.position c) size h)
     (and_parts (is_some (look d)) (list_all (λ e. is_some (look (shifted d.position e))) (reads_at x d.node)) fits).1
 
--- where the rule fits, the rule is given: each cell that it reads is in range and has a symbol
 seen_some : (near : Bool) (o : Option ℕ) → near ≡ true → is_some o ≡ true → is_some (cond near o None) ≡ true
 seen_some true o h some = some
 seen_some false o h some = absurd (false≢true h)
 
+-- where the rule fits, the rule is given: each cell that it reads is in range and has a symbol
 pub given_where : (x : LocalRule) (all : List Cell) → AreInRange all → (j : ℕ) (ss : List ℕ) (d : Cell) → j ≤ length all → length ss ≡ j →
     place_fits x (look_of (take j all) ss) d ≡ true → is_given x d (look_of (take j all) ss) ≡ true
 given_where x all near j ss d most size fits =
@@ -134,7 +134,7 @@ given_where x all near j ss d most size fits =
     (reads_at x d.node)
     (and_parts (is_some (look d)) (list_all (λ e. is_some (look (shifted d.position e))) (reads_at x d.node)) fits).1
 
--- when one more cell gets a symbol, the rule has to be tested only at the places that this settles
+-- when one more cell gets a symbol, the rule has to be tested only at the places where it couldn't be tested before
 
 at_once : (e f f' g t t' : Bool) → e ≡ true → f ≡ false → f' ≡ true → g ≡ true → (not f' || t') ≡ ((not e || (not g || t')) && (not f || t))
 at_once e f f' g t t' he hf hf' hg = rw (he, hf, hf', hg) (and_true t')
@@ -193,6 +193,7 @@ late_kept x all up j ss size i d within =
 and_with_true : (a b : Bool) → b ≡ true → a ≡ (a && b)
 and_with_true a b h = rw h (and_true a)
 
+-- so a filling of the first cells may be tested at all cells
 pub admissible_of_all : (x : LocalRule) (all : List Cell) → IsStrictlySortedBy cell_cmp all → (j : ℕ) (ss : List ℕ) → length ss ≡ j →
     is_admissible x (take j all) ss ≡ list_all (is_true_if_it_fits x (look_of (take j all) ss)) all
 admissible_of_all x all up j ss size =
@@ -206,6 +207,8 @@ and_turned true false = refl
 and_turned false true = refl
 and_turned false false = refl
 
+-- a filling with one more symbol is admissible exactly when it was so before, and the rule is true at the places where it can
+-- first be tested now
 pub admissible_parts : (x : LocalRule) (all : List Cell) → IsStrictlySortedBy cell_cmp all → AreInRange all → (j : ℕ) (ss : List ℕ) (s : ℕ) → j < length all → length ss ≡ j →
     is_admissible x (take (j + 1) all) (ss ++ s ∷ []) ≡ (is_admissible x (take j all) ss && are_true x (take (j + 1) all) (settled x all j) (ss ++ s ∷ []))
 admissible_parts x all up near j ss s below size =

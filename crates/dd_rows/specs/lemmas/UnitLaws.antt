@@ -1,4 +1,4 @@
--- `one_at` is 1 at one number, and 0 elsewhere.
+-- `one_at` is 0 for two different numbers.
 use Rattle.std.proofs.{Common.◌≡◌, Common.pos, Common.cond, Common.ℕ, Common.ap, lemmas.Bool.ne_eqb}
 use Rattle.dd_rows.specs.Programs.{one_at}
 

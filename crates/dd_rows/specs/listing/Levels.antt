@@ -1,4 +1,5 @@
--- The levels of the search for admissible fillings. Level k has the admissible fillings of the first k cells.
+-- The levels of the search for admissible fillings. Level k has the admissible fillings of the first k cells. A cell's number
+-- is its index in the list of cells, or the length of the list if the cell isn't there.
 use Rattle.std.specs.Prelude.{ℕ, ◌<◌, ◌≡◌, Bool, not, cond, ◌||◌, List, [], ◌∷◌, ◌++◌, map, filter, length, All}
 use Rattle.std.specs.{Bool.nat_eq, List.range_with_len, List.list_all}
 use Rattle.dd_lattice.specs.{Cells.shifted, Place.IsInRange, declared.position.Cell.Cell}
@@ -30,7 +31,8 @@ chosen [] cs k = []
 chosen (n ∷ ns) [] k = []
 chosen (n ∷ ns) (c ∷ cs) k = cond (nat_eq n k) (c ∷ chosen ns cs k) (chosen ns cs k)
 
--- whether the rule is true at the cell, or isn't given there: a cell that the rule reads there has no symbol or is out of range
+-- Whether the rule is true at the cell, or isn't given there. It is given if each cell that it reads there is in range and has
+-- a symbol.
 abbrev pub is_true_if_given : LocalRule → Look → Cell → Bool
 is_true_if_given x look c = not (is_given x c look) || is_true x c look
 

@@ -22,6 +22,6 @@ pub record ShowsSame (v : Views) (lists shown : List (List ℕ)) : Type 0 where
   pub patterns : patterns_shown v shown ≡ patterns_shown v lists
   pub rows : (ps : List (List ℕ)) (ws : List ℕ) (most : ℕ) → first_seen (required_rows ps v ws most shown) ≡ first_seen (required_rows ps v ws most lists)
 
--- if all symbols of `lists` are below some number, so are all symbols of `shown`, the fillings that are kept
+-- for each n: if all symbols of `lists` are below n, so are all symbols of `shown`, the fillings that are kept
 abbrev pub HasKnown : List (List ℕ) → List (List ℕ) → Type 0
 HasKnown lists shown = (n : ℕ) → All (λ ss. All (λ s. s < n) ss) lists → All (λ ss. All (λ s. s < n) ss) shown

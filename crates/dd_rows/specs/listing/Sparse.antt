@@ -37,7 +37,8 @@ pub record IsSparse (vectors patterns : ℕ) (r : SparseRow) : Type 0 where
 abbrev pub AreSparse : ℕ → ℕ → List SparseRow → Type 0
 AreSparse vectors patterns rs = All (IsSparse vectors patterns) rs
 
--- written out by `dense`, `new` is `old` with the row r appended, unless this row is already there
+-- Written out by `dense`, the rows of `new` are those of `old`, and then r, unless r is already there. The rows of `new` have
+-- the form that `IsSparse` describes.
 pub record IsWithRow (vectors patterns : ℕ) (old : List SparseRow) (r : SparseRow) (new : List SparseRow) : Type 0 where
   pub rows : map (dense patterns) new ≡ add_row (map (dense patterns) old) (dense patterns r)
   pub sparse : AreSparse vectors patterns new

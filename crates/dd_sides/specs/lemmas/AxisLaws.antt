@@ -42,7 +42,7 @@ pub axis_most : (n : ℕ) (a : ℤ) (g : ℤ → ℕ) (e : ℕ) → ((c : ℤ) �
 axis_most zero a g e up = omega arith
 axis_most (suc n) a g e up = omega (arith, axis_most n a g e up, up (a +ℤ pos n))
 
--- the sums of g and h over the same run, compared
+-- if g + k is at most h + e at each coordinate, this holds for the sums over a run, too
 together : (n : ℕ) (a : ℤ) (g h : ℤ → ℕ) (k e : ℕ) → ((c : ℤ) → g c + k ≤ h c + e) → axis_sum n a g + n * k ≤ axis_sum n a h + n * e
 together zero a g h k e le = omega arith
 together (suc n) a g h k e le = omega (arith, together n a g h k e le, le (a +ℤ pos n))
@@ -67,7 +67,8 @@ shifted_down d r a b g h k e is le up =
 far : (n m : ℕ) (b a : ℤ) (g h : ℤ → ℕ) (k e : ℕ) → n ≤ m → ((c : ℤ) → g c ≤ e) → axis_sum n b g + (n - m) * k ≤ axis_sum n a h + n * e
 far n m b a g h k e le up = let z : n - m ≡ 0 = omega arith in rw z (omega (arith, axis_most n b g e up))
 
--- the step from one axis to the next: g over the run moved by -s, compared with h over the run
+-- The step from one axis to the next. Let g be at most e, and g + k at most h + e, at each coordinate. Then the sum of g over the run moved by -s,
+-- plus k times max(0, n - |s|), is at most the sum of h over the run, plus e times n.
 pub axis_shifted : (n : ℕ) (a s : ℤ) (g h : ℤ → ℕ) (k e : ℕ) → ((c : ℤ) → g c + k ≤ h c + e) → ((c : ℤ) → g c ≤ e) →
     axis_sum n (a -ℤ s) g + (n - unsigned_abs s) * k ≤ axis_sum n a h + n * e
 axis_shifted n a (pos d) g h k e le up = elim (cases_lt d n) [

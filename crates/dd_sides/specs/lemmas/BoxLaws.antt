@@ -61,7 +61,8 @@ regroup a b c m = omega arith
 regroup_volume : (a b c m : ℕ) → a * (b * (c * m)) ≡ m * (c * (b * a))
 regroup_volume a b c m = omega arith
 
--- the sum of f over the box moved by -v, compared with the sum over the box
+-- if f is at most m everywhere, the sum of f over the box moved by -v is at most the sum over the box, plus m for each position of the box that
+-- receives along v from outside it
 pub box_shifted : (s : Size) (u v : Place) (f : Place → ℕ) (m : ℕ) → ((p : Place) → f p ≤ m) →
     box_sum s (seen_from v u) f + m * kept s v ≤ box_sum s u f + m * size_volume s
 box_shifted s u v f m up =

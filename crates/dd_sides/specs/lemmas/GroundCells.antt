@@ -20,7 +20,7 @@ use Rattle.dd_sides.specs.Lifted.{reach_of}
 
 -- ---- the cells of a list of positions
 
--- the position of c is in the list, and its node is one of n
+-- the position of c is in the list, and the node of c is one of the first n
 pub record IsCellOn (n : ℕ) (ps : List Place) (c : Cell) : Type 0 where
   pub position : Contains ps c.position
   pub node : c.node < n
@@ -180,7 +180,7 @@ itself c = omega (arith, ints)
 same_below : (p : Place) → IsAtMostOnEachAxis p p
 same_below p = record { on_x = itself p.x; on_y = itself p.y; on_z = itself p.z }
 
--- the positions of the ground are in range, and so are the corners of the box
+-- the corners of B(radius) are positions of the ground, so they are in range
 box_in_range : (x : LocalRule) (radius margin : ℕ) (vs : List Place) (cs : List Cell) → IsGround x radius margin vs cs → IsBox (centred x.dimension radius)
 box_in_range x radius margin vs cs sites =
     let b = centred x.dimension radius in

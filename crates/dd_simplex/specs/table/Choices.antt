@@ -1,5 +1,7 @@
--- How the code chooses the variable that enters and the line whose variable leaves: of the first n places or lines, it takes an
--- eligible one that comes before each other eligible one.
+-- How the code chooses the variable that enters and the line whose variable leaves. Of the first n places or lines, it takes an eligible one that
+-- comes before each other eligible one. A place is eligible if its cost is greater than 0, and lower-numbered variables come first. A line is
+-- eligible if it limits the entering variable, which means that its cell at the place of this variable is greater than 0. Lines with smaller ratios
+-- come first. Of lines with the same ratio, the one with the lower-numbered basic variable comes first.
 use Rattle.std.specs.Prelude.{◌≡◌, ℕ, ◌<◌, ◌≤◌, List, length, Bool, true, false, ◌&&◌, ◌||◌, Option, Some, None}
 use Rattle.std.specs.{Bool.nat_lt, Ordering.is_lt, Ordering.is_eq}
 use Rattle.dd_fraction.specs.{Exact.Exact, Exact.times, Exact.inverse, Order.IsAtMost, Order.exact_cmp, Checked.does_product_fit}
@@ -40,7 +42,7 @@ abbrev pub IsRatioOf : List Line → ℕ → Exact → Option ℕ → Type 0
 IsRatioOf lines e a None = a ≡ a
 IsRatioOf lines e a (Some r) = a ≡ line_ratio lines e r
 
--- if one of the first n lines limits the entering variable, the numbers of its ratio fit
+-- of the first n lines, each one that limits the entering variable has a ratio whose numbers fit
 abbrev pub DoRatiosFit : List Line → ℕ → ℕ → Type 0
 DoRatiosFit lines e n =
     (i : ℕ) → i < n → does_limit lines e i ≡ true

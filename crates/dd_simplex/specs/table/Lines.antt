@@ -1,5 +1,6 @@
 -- A table is a dictionary in the form that the code uses. It lists the nonbasic variables, and a variable's place is its index in this list. This
--- module defines one pivot of a table. Each test whose name ends in `fit` says whether the numbers of the step defined just above it fit.
+-- module defines one pivot of a table. A test whose name ends in `fit` says whether the numbers of the step defined just above it fit, unless a
+-- comment of its own says what it tests.
 use Rattle.std.specs.Prelude.{◌≡◌, true, ℕ, ◌+◌, List, [], ◌∷◌, ◌++◌, map, take, drop, Bool, true, ◌&&◌, slice_index_or, slice_set}
 use Rattle.std.specs.List.{list_all, All}
 use Rattle.dd_fraction.specs.Exact.{Exact, plus, times, minus, inverse}
@@ -63,7 +64,7 @@ does_changed_fit e pivot l =
     (does_product_fit q pivot.bound && does_sum_fit l.bound (minus (times q pivot.bound)))
     && do_all_less_fit q (slice_set l.cells e zero_of) pivot.cells
 
--- the lines after a pivot: line r is solved for the variable at the place e
+-- the lines after a pivot: line r is solved for the variable `entering` at the place e, and substituted into the other lines
 abbrev pub changed_lines : ℕ → ℕ → ℕ → List Line → List Line
 changed_lines e r entering lines =
     let pivot = solved_line entering e (line_at lines r) in
@@ -82,7 +83,7 @@ does_objective_line_fit e pivot value costs =
     (does_product_fit c pivot.bound && does_sum_fit value (times c pivot.bound))
     && do_all_less_fit c (slice_set costs e zero_of) pivot.cells
 
--- the table after a pivot: line r is solved for the variable at the place e
+-- the table after a pivot: line r is solved for the variable at the place e, and substituted into the other lines and the objective
 abbrev pub changed_table : ℕ → ℕ → Table → Table
 changed_table e r t =
     let leaving = line_at t.lines r in

@@ -9,11 +9,11 @@ use Rattle.dd_simplex.specs.table.Choices.{IsChosen, does_enter, EntersBefore, d
 abbrev pub DoesEnter : Table → Option ℕ → Type 0
 DoesEnter t o = IsChosen (does_enter t.costs) (EntersBefore t.others) (length t.costs) o
 
--- o is the line whose variable leaves, or `None` if no variable leaves
+-- when the variable at the place e enters, o is the line whose variable leaves, or `None` if no variable leaves
 abbrev pub DoesLeave : Table → ℕ → Option ℕ → Type 0
 DoesLeave t e o = IsChosen (does_limit t.lines e) (LeavesBefore t.lines e) (length t.lines) o
 
--- a pivot was made, and all its numbers fit
+-- a pivot was made, and all numbers of the iteration fit
 pub record HasIterated (old new : Table) : Type 0 where
   pub place : ℕ
   pub line : ℕ
@@ -23,14 +23,14 @@ pub record HasIterated (old new : Table) : Type 0 where
   pub fit : does_table_fit place line old ≡ true
   pub pivoted : new ≡ changed_table place line old
 
--- a line was chosen, but a number of its pivot doesn't fit
+-- the variable of some line leaves and the numbers of the ratios fit, but a number of the pivot doesn't fit
 pub record HasLeft (t : Table) (e : ℕ) : Type 0 where
   pub line : ℕ
   pub ratios : DoRatiosFit t.lines e (length t.lines)
   pub leaves : DoesLeave t e (Some line)
   pub misfit : does_table_fit e line t ≡ false
 
--- no pivot could be made: a number of a ratio doesn't fit, nothing leaves, or a number of the pivot doesn't fit
+-- a variable enters, but no pivot can be made: a number of a ratio doesn't fit, nothing leaves, or a number of the pivot doesn't fit
 pub record IsStuck (t : Table) : Type 0 where
   pub place : ℕ
   pub enters : DoesEnter t (Some place)
@@ -40,7 +40,7 @@ pub record IsStuck (t : Table) : Type 0 where
 abbrev pub line_of : LinearProgram → ℕ → Line
 line_of p i = record { basic = p.columns + i; bound = bound_at p i; cells = (row_at p i).coefficients }
 
--- the first table of a program
+-- t is the first table of the program, and the program's numbers are fractions in lowest terms that fit
 pub record IsStart (p : LinearProgram) (t : Table) : Type 0 where
   pub height : length t.lines ≡ length p.rows
   pub lines : (i : ℕ) → i < length p.rows → line_at t.lines i ≡ line_of p i

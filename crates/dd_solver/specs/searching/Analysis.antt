@@ -7,7 +7,7 @@ use Rattle.dd_trail.specs.{declared.trail.Entry.Entry, Trails.falses}
 use Rattle.dd_solver.specs.declared.analysis.{Backjump.Backjump, Choice.Choice}
 use Rattle.dd_solver.specs.declared.analysis.Choice.TheVariants.{Resolve, Keep}
 
--- the literal's variable is marked
+-- the literal's variable is marked; `marked` holds the mark of the variable v at index v - 1
 abbrev pub marks : List Bool → Literal → Bool
 marks marked l = slice_index_or marked (l.variable - 1) false
 
@@ -19,7 +19,7 @@ Grows old new = (l : Literal) → marks old l ≡ true → marks new l ≡ true
 abbrev pub AreMarked : List Bool → List Literal → Type 0
 AreMarked marked c = (l : Literal) → is_among c l ≡ true → marks marked l ≡ true
 
--- the variables of the clause with this number are marked
+-- the variables of the clause with this number are marked, if there is such a clause
 abbrev pub IsMarkedClause : List (Option (List Literal)) → List Bool → ℕ → Type 0
 IsMarkedClause known marked r = MatchOption (clause_of known r) ⊤ (AreMarked marked)
 
@@ -27,7 +27,7 @@ IsMarkedClause known marked r = MatchOption (clause_of known r) ⊤ (AreMarked m
 abbrev pub is_rightly_learned : ℕ → List (Option (List Literal)) → List Literal → List ℕ → Bool
 is_rightly_learned n known learned hints = is_proper n learned && is_conflict known learned hints
 
--- p is the place of a decision, at or before the place `top`, and no entry from there up to but excluding `top` is marked
+-- p is the place of a decision, at or before the place `top`, and no entry from p up to but excluding `top` is marked
 pub record IsPlace (trail : List Entry) (marked : List Bool) (top p : ℕ) : Type 0 where
   pub from : p ≤ top
   pub decided : (d : Entry) → (slice_index_or trail p d).reason ≡ None
@@ -39,14 +39,14 @@ pub record IsBackjump (trail : List Entry) (marked : List Bool) (place : ℕ) (b
   pub at : IsPlace trail marked place backjump.place
   pub literal : (d : Entry) → backjump.literal ≡ negation (slice_index_or trail place d).literal
 
--- The choice is right. If the entry is resolved, the clause with the chosen number forced it. If the entry is the first one kept, the backjump fits
--- its place. If another entry was kept before, the backjump stays the same.
+-- The choice is right. If the entry is resolved, the clause with the chosen number is its reason. If it is the first entry kept, the backjump is
+-- right for its place. If it is kept and another entry was kept before, the backjump stays the same.
 abbrev pub ChoiceSays : List Entry → List Bool → Option Backjump → ℕ → Choice → Type 0
 ChoiceSays trail marked backjump place (Resolve r) = (d : Entry) → (slice_index_or trail place d).reason ≡ Some r
 ChoiceSays trail marked None place (Keep t) = IsBackjump trail marked place t
 ChoiceSays trail marked (Some u) place (Keep t) = t ≡ u
 
--- the backjump's place is that of a decision, and with only the entries before this place, the learned clause forces the backjump's literal
+-- the backjump's place is that of a decision; with only the entries before this place, the learned clause forces the backjump's literal
 pub record Asserts (trail : List Entry) (learned : List Literal) (backjump : Backjump) : Type 0 where
   pub within : backjump.place < length trail
   pub decided : (d : Entry) → (slice_index_or trail backjump.place d).reason ≡ None

@@ -3,7 +3,7 @@ use Rattle.std.specs.Prelude.{◌≡◌, ℕ, suc, ◌+◌, ◌-◌, ◌<◌, �
 use Rattle.dd_derivation.specs.declared.step.Step.{Step}
 use Rattle.dd_solver.specs.Trimming.{is_hint}
 
--- some marked step has the hint `number`, which is the number of the step at j; the marked step stands after j, and at `place` or later
+-- some marked step, after index j and at index `place` or later, has the hint `number`, which is the number of the step at j
 pub record IsNeeded (place j number : ℕ) (steps : List Step) (marked : List Bool) : Type 0 where
   pub at : ℕ
   pub from : place ≤ at
@@ -12,9 +12,9 @@ pub record IsNeeded (place j number : ℕ) (steps : List Step) (marked : List Bo
   pub is_marked : slice_index_or marked at false ≡ true
   pub hinted : (d : Step) → is_hint number (slice_index_or steps at d).hints ≡ true
 
--- The marks of a walk that has come to `place`. The last step is marked. So is each step that is named by a hint of a later marked step, if this
--- later step stands at `place` or after it. Conversely, each marked step but the last is named by such a hint. The steps' numbers begin after those
--- of the clauses.
+-- The marks of a walk that has come down to the index `place`. The last step is marked. So is each step that is named by a hint of a later marked
+-- step, if this later step stands at `place` or after it. Conversely, each marked step but the last is named by such a hint. The step at index j has
+-- the number `clauses + suc j`.
 pub record IsMarking (clauses place : ℕ) (steps : List Step) (marked : List Bool) : Type 0 where
   pub as_many : length marked ≡ length steps
   pub last : (j : ℕ) → suc j ≡ length steps → slice_index_or marked j false ≡ true
@@ -28,8 +28,8 @@ abbrev pub numbers_from : ℕ → List Bool → List ℕ
 numbers_from last [] = []
 numbers_from last (m ∷ marked) = let next = if m then suc last else last in next ∷ numbers_from next marked
 
--- the new number of a clause: a clause of the list keeps its number, and the step at an index gets the number that `numbers` has
--- at this index
+-- the new number of a clause: a clause of the list keeps its number, and the step at an index gets the number that `numbers` has at this index; a
+-- number that no clause has stays the same
 abbrev pub renamed : ℕ → List ℕ → ℕ → ℕ
 renamed clauses numbers number =
     if nat_le number clauses then number else slice_index_or numbers (number - clauses - 1) number

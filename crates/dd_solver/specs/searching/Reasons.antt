@@ -13,7 +13,7 @@ all_known clauses = map (λ c. Some c) clauses
 abbrev pub AreInRange : ℕ → List (Option (List Literal)) → Type 0
 AreInRange n known = (r : ℕ) (c : List Literal) → clause_of known r ≡ Some c → IsClauseInRange n c
 
--- the literal was decided, or the clause with this number forces it once the older entries are true
+-- the literal was decided, or the clause with this number forces it when the literals of the older entries are true
 abbrev pub Follows : List (Option (List Literal)) → List Entry → Literal → Option ℕ → Type 0
 Follows known older l None = ⊤
 Follows known older l (Some r) = hint_finding known (is_among (falses older)) r ≡ Forced l

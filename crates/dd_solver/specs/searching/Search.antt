@@ -55,22 +55,23 @@ AreOpen s = (r : ℕ) → hint_finding (known s) (is_among (falses s.entries)) r
 abbrev pub IsFalsified : State → ℕ → Type 0
 IsFalsified s r = hint_finding (known s) (is_among (falses s.entries)) r ≡ Falsified
 
--- the backjump's place is that of a decision, and with only the entries before this place, the last step's clause forces the backjump's literal
+-- the backjump's place is that of a decision; with only the entries before this place, the last step's clause forces the backjump's literal
 pub record IsForced (s : State) (backjump : Backjump) : Type 0 where
   pub within : backjump.place < length s.entries
   pub decided : (d : Entry) → (slice_index_or s.entries backjump.place d).reason ≡ None
   pub forces : hint_finding (known s) (is_among (falses (take backjump.place s.entries))) (length s.clauses + length s.steps) ≡ Forced backjump.literal
 
--- what holds after the analysis of a conflict: if there is a backjump, the last step's clause forces its literal; if not, the steps refute the
--- clauses
+-- what holds after the analysis of a conflict: if there is a backjump, the last step's clause forces its literal once the trail is cut at its place;
+-- if not, the steps refute the clauses
 abbrev pub GoesOn : State → Option Backjump → Type 0
 GoesOn s backjump = MatchOption backjump (refutes s.variables s.clauses s.steps ≡ true) (IsForced s)
 
--- The trail is read as a number of n digits in base 3. The first entry gives the leading digit. A forced entry is the digit 2, a decided entry the
--- digit 1, and a place without an entry the digit 0. The number rises with each propagation, decision and backjump. It is below 3 ^ n.
+-- the digit of an entry: 1 if it was decided, and 2 if it was forced
 abbrev pub digit : Bool → ℕ
 digit is_decided = if is_decided then 1 else 2
 
+-- The trail is read as a number of n digits in base 3. The first entry gives the leading digit. A place without an entry gives the digit 0. The
+-- number rises with each entry that is added and with each backjump. It is below 3 ^ n.
 unfoldable pub trail_number : ℕ → List Bool → ℕ
 trail_number n [] = 0
 trail_number zero (d ∷ ds) = 0

@@ -8,11 +8,11 @@ use Rattle.std.specs.Option.{option_and_then}
 use Rattle.dd_values.specs.lemmas.Members.{Contains-first, Contains-later, Contains-nil, Contains-cons_cases}
 use Rattle.indexmap.specs.IndexSet.{insert_key}
 
--- inserting a new key appends it to the list
+-- `insert_key` appends an element that the list doesn't have yet
 pub insert_key-new : {K : Type 0} (eq : K → K → Bool) (k : K) (ks : List K) → list_any (eq k) ks ≡ false → insert_key eq ks k ≡ ks ++ k ∷ []
 insert_key-new eq k ks h = ap (λ b. if b then ks else ks ++ k ∷ []) h
 
--- searches with two tests that agree on every item find the same item
+-- searches with two tests that agree on every item have the same result
 pub find_alike : {X : Type 0} (p q : X → Bool) → ((x : X) → p x ≡ q x) → (xs : List X) → find p xs ≡ find q xs
 find_alike p q same [] = refl
 find_alike p q same (x ∷ xs) = ap (λ b. cond b (Some x) (find p xs)) (same x) ∙ ap (λ r. cond (q x) (Some x) r) (find_alike p q same xs)

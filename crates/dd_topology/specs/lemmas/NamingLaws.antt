@@ -1,5 +1,5 @@
--- Keys that spell names: f gives the bytes that a key spells. A search for a name gives the same result among the keys as among the names that they
--- spell.
+-- Names that are stored as the keys of a set: a key k spells the name f k, a list of bytes. A search for a name gives the same result among the keys
+-- as among the names that they spell.
 use Rattle.std.proofs.Common.{◌≡◌, ℕ, List, [], ◌∷◌, true, false, map, length, Some, Contains, refl, ap, sym, ◌∙◌, true≢false, ◌++◌}
 use Rattle.std.proofs.lemmas.{List.map-append, List.Quantifiers.position-Some, Map.Made.AllPairs-from_IsDistinct}
 use Rattle.std.proofs.lemmas.{Map.Views.list_any-from_Contains, Map.Views.Contains-from_any, Option.slice_get_read}

@@ -1,4 +1,4 @@
--- Strictly sorted lists: such a list is determined by its members.
+-- Strictly sorted lists: such a list is determined by its members. `insert_key` inserts an element into such a list.
 use Rattle.std.proofs.Common.{◌≡◌, List, [], ◌∷◌, refl, ap, sym, ◌∙◌, subst, inl, inr, ◌⊎◌, rules, arith, Contains}
 use Rattle.std.proofs.lemmas.List.Elements.{All-from_recursion, recursion_from_All, All-cons, All-weaker}
 use Rattle.std.proofs.lemmas.Map.Views.{All-insert_key}
@@ -83,7 +83,7 @@ module _ {K : Type 0} (R : K → K → Ordering) (exact : (x y : K) → R x y �
   kept_step k x xs rest d into there Greater =
       elim (Contains-cons_cases x xs d there) [ inl same ↦ subst (Contains (x ∷ rest)) same (Contains-first x rest) | inr after ↦ Contains-later x rest d (into after) ]
 
-  -- inserting a key keeps the members, makes the key a member, and adds no other
+  -- `kept-`, `has-` and `from-insert_key`: inserting an element keeps the members, makes the element a member, and adds no other member
   pub kept-insert_key : (ks : List K) (k d : K) → Contains ks d → Contains (insert_key R ks k) d
   kept-insert_key [] k d there = absurd (Contains-nil d there)
   kept-insert_key (x ∷ xs) k d there = kept_step k x xs (insert_key R xs k) d (kept-insert_key xs k d) there (R k x)

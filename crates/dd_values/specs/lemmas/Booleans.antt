@@ -78,7 +78,7 @@ pub not_not : (b : Bool) → not (not b) ≡ b
 not_not true = refl
 not_not false = refl
 
--- the opposite sign gives the opposite value
+-- a literal of a variable with the value b is b if its sign is true, and not b otherwise; the opposite sign gives the opposite value
 pub if_not : (sign b : Bool) → (if not sign then b else not b) ≡ not (if sign then b else not b)
 if_not true b = refl
 if_not false b = sym (not_not b)
@@ -102,7 +102,7 @@ pub and_same : (b : Bool) → (b && b) ≡ b
 and_same true = refl
 and_same false = refl
 
--- a comparison by two keys gives Equal only if both keys do
+-- `ordering_then a b` is b if a is Equal, and a otherwise; it is Equal only if both a and b are
 pub both_equal : (a b : Ordering) → ordering_then a b ≡ Equal → (a ≡ Equal) × (b ≡ Equal)
 both_equal Less b h = absurd (cc)
 both_equal Equal b h = (refl, h)

@@ -23,7 +23,7 @@ slice_index_within n [] i h = omega arith
 slice_index_within n (x ∷ xs) zero h = h zero x (omega arith)
 slice_index_within n (x ∷ xs) (suc i) h = slice_index_within n xs i (λ k d within. h (suc k) d (omega (arith, within)))
 
--- an index at which the row has the value true is within the row
+-- in a list of truth values, false past its end, an index with the value true is below the length
 pub nothing_past : (row : List Bool) (t : ℕ) → get_or row t false ≡ true → t < length row
 nothing_past row t h = elim (cases_lt t (length row)) [ inl low ↦ low | inr high ↦ absurd (let past = get_or-eq_default row false high in cc) ]
 
@@ -103,7 +103,7 @@ pub all_flat_map : {X Y : Type 0} (P : Y → Type 0) (Q : X → Type 0) (f : X �
 all_flat_map P Q f h [] all = All-nil P
 all_flat_map P Q f h (x ∷ xs) all = All-append P (f x) (flat_map f xs) (h x (all_first Q x xs all)) (all_flat_map P Q f h xs (all_rest Q x xs all))
 
--- when the range is one number longer, the items for that number are added at the end
+-- if a range grows by the number k + n at its end, its image under `flat_map f` grows by the list `f (k + n)` at its end
 pub range_more : {X : Type 0} (f : ℕ → List X) (k n : ℕ) → flat_map f (range_with_len k (suc n)) ≡ flat_map f (range_with_len k n) ++ f (k + n)
 range_more f k zero = append-nil (f k) ∙ ap f (omega arith)
 range_more f k (suc n) =

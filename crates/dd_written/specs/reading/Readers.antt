@@ -12,12 +12,13 @@ abbrev pub ◌>>=◌ : {A B : Type 0} → Option A → (A → Option B) → Opti
 (Some x) >>= f = f x
 None >>= f = None
 
--- a function that implements a reader may fail with this fault: either memory ran out, or the reader reads nothing
+-- A function that implements a reader may fail with this fault. It may always fail with `Memory`, but with `Syntax` only if the reader reads nothing.
 abbrev pub Fails : {Y : Type 0} → ReadFault → Option Y → Type 0
 Fails ReadFault.Memory read = Unit {0}
 Fails ReadFault.Syntax read = read ≡ None
 
--- A function that implements a reader returned what the reader reads, unless memory ran out. The value that it returned is seen through `view`.
+-- a function that implements a reader may return this result: a value that `view` takes to what the reader reads, or a fault with which the function
+-- may fail
 abbrev pub Gives : {X Y : Type 0} → (X → Y) → Result X ReadFault → Option Y → Type 0
 Gives view (Ok x) read = read ≡ Some (view x)
 Gives view (Err e) read = Fails e read

@@ -5,7 +5,7 @@ use Rattle.dd_circuit.specs.declared.gates.Signal.{Signal}
 use Rattle.dd_compile.specs.{Compiling.wires_near, Wiring.Wiring, Wiring.wire_of}
 use Rattle.dd_compile.proofs.compiling.wire_near.Goals as goal
 
--- there is a place p only if the test b is passed, and then p is the moved place m
+-- if `if b then Some m else None` gives a place p, then f p is what `if b then f m else None` gives
 there : (b : Bool) (f : Place → Option Signal) (p m : Place) → Some p ≡ (if b then Some m else None) → f p ≡ (if b then f m else None)
 there true f p m is = ap f cc
 there false f p m is = absurd cc

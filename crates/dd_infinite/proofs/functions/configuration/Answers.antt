@@ -4,7 +4,7 @@ use Rattle.std.proofs.lemmas.List.Elements.{Contains-get_or}
 use Rattle.dd_infinite.proofs.Whole.{whole_of}
 use Rattle.dd_infinite.proofs.functions.configuration.Goals as goal
 
--- what is returned is a configuration of the script
+-- the configuration that is returned is one of the script's, so each of its cells has an allowed symbol
 pub returns-then-number-configurations-clause-whole : goal.returns-then-number-configurations-clause-whole
 returns-then-number-configurations-clause-whole c =
     let all = c.args.script.now.configurations in

@@ -2,7 +2,8 @@ use Rattle.std.proofs.Common.{◌≡◌, take, drop, ◌++◌}
 use Rattle.dd_simplex.specs.table.Lines.{less, do_all_less_fit}
 use Rattle.dd_simplex.proofs.line.subtract.Given as goal
 
--- the whole test and the whole result, in terms of the cells before i, which are done, and of the others, which are left to do
+-- The cells before i are done. The whole test is the test of the others, and the whole result is the done cells, followed by the result for the
+-- others.
 abbrev pub invariant-loop-i : goal.invariant-loop-i
 invariant-loop-i l = record {
   fits : do_all_less_fit l.factor l.initial.cells l.others ≡ do_all_less_fit l.factor (drop l.i l.cells) (drop l.i l.others);

@@ -3,7 +3,7 @@ use Rattle.std.proofs.lemmas.List.{drop_more}
 use Rattle.dd_written.specs.{Tree.Join, Tree.Formula, Formulas.tree_depth, Formulas.signs_over, Formulas.chain_depth}
 use Rattle.dd_written.proofs.depth.+measure.Goals as goal
 
--- the depth that the parts from part i on reach is the greater of two: that of part i, and that of the parts after it
+-- the depth that the parts from part i on reach is the greater of two: the depth that part i reaches, and the depth that the later parts reach
 chain_more : (j : Join) (n i : ℕ) (fs : List Formula) (f : Formula) → i < length fs → f ≡ slice_index_or fs i f
     → chain_depth j n i (map tree_depth (drop i fs)) ≡ max (signs_over j n i + tree_depth f) (chain_depth j n (i + 1) (map tree_depth (drop (i + 1) fs)))
 chain_more j n i fs f lt is = ap (λ (gs : List Formula). chain_depth j n i (map tree_depth gs)) (drop_more fs i f lt ∙ ap (λ (g : Formula). g ∷ drop (i + 1) fs) (sym is))

@@ -10,7 +10,7 @@ use Rattle.dd_fraction.proofs.Quick.{as_lowest, whole_side}
 use Rattle.dd_fraction.proofs.fraction.Fraction.cross_sum.Goals.{Joined-then-self-eq1, then-self-eq1-via-then-self-eq1, then-self-eq1-via-else-self-eq1+then-other-eq1}
 use Rattle.dd_fraction.proofs.fraction.Fraction.cross_sum.Goals as goal
 
--- what the calls say about a cross product, and about the sum of the two cross products
+-- what the contracts of `product` and `sum` say about the cross products and their sum, as statements on whole numbers
 cross_is : (o : Option ℤ) (n : ℤ) (d : ℕ) → SFits w128 n → d < 2 ^ 127 → o ≡ bounded (to_z w128 (of_z w128 n) *ℤ to_z w128 d) → o ≡ bounded (n *ℤ pos d)
 cross_is o n d fits below is = let den : to_z w128 d ≡ pos d = to_z_pos w128 d below in simp (to_z-of_z, den) at is
 

@@ -10,7 +10,7 @@ use Rattle.dd_fraction.proofs.Quick.{as_lowest, unit_left, unit_right}
 use Rattle.dd_fraction.proofs.fraction.Fraction.mul.Goals.{Joined-then-is_unit, then-is_unit-via-then-is_unit, then-is_unit-via-else-is_unit+then-is_unit-2}
 use Rattle.dd_fraction.proofs.fraction.Fraction.mul.Goals as goal
 
--- what the call says about the product of the numerators
+-- what the contract of `product` says about the product of the numerators, as a statement on whole numbers
 num_is : (o : Option ℤ) (n m : ℤ) → SFits w128 n → SFits w128 m → o ≡ bounded (to_z w128 (of_z w128 n) *ℤ to_z w128 (of_z w128 m)) → o ≡ bounded (n *ℤ m)
 num_is o n m one two is = simp to_z-of_z at is
 
