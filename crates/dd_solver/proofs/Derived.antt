@@ -6,10 +6,10 @@ use Rattle.dd_clause.specs.{declared.clause.Literal.Literal, Clauses.IsLiteralIn
 use Rattle.dd_derivation.specs.declared.{propagation.Finding.TheVariants.Forced, step.Step.Step}
 use Rattle.dd_derivation.specs.Derivations.{is_empty, is_among, finding, hint_finding, is_literal_in_range, is_proper, is_conflict, is_right, are_deletable, known_after, refutes_from}
 use Rattle.dd_trail.specs.{declared.trail.Entry.Entry, Trails.falses}
-use Rattle.dd_solver.specs.searching.Reasons.{AreInRange, Follows, IsTrail}
+use Rattle.dd_trail.specs.Reasons.{AreInRange, Follows, IsTrail}
 use Rattle.dd_solver.specs.searching.{Analysis.is_rightly_learned, Deleting.MayDelete}
 use Rattle.dd_solver.specs.searching.Search.{after_step, known_through, is_derived}
-use Rattle.dd_solver.proofs.Forcing.{hint_clause, at_clause}
+use Rattle.dd_trail.specs.lemmas.Reasons.{hint_clause, at_clause}
 use Rattle.dd_solver.proofs.Numbers.{Known, known_push, known_left, known_last, known_before, length-after}
 
 pub through_more : (before : Known) (steps : List Step) (s : Step) → known_through before (steps ++ s ∷ []) ≡ after_step (known_through before steps) s

@@ -58,14 +58,3 @@ forced_from p c l f = go (left_of p c) (in_left_of p c l f.member f.not_false) (
         let e : y ≡ l = a y (in_here rest y) in
         let s : list_all (same_literal l) rest ≡ true = all_same l rest (λ x j. a x (or_right _ _ j)) in
         rw (e, s, f.not_true) refl
-
--- if `hint_finding` of a number is not `Open`, there is a clause with this number that says the same
-pub hint_clause : (known : List (Option (List Literal))) (p : Literal → Bool) (r : ℕ) (f : Finding) → (f ≡ Open → ⊥) → hint_finding known p r ≡ f → (c : List Literal) × (clause_of known r ≡ Some c) × (finding p c ≡ f)
-hint_clause known p r f n h = go (clause_of known r) refl h
-  where
-    go : (o : Option (List Literal)) → clause_of known r ≡ o → option_map_or (finding p) o Open ≡ f → (c : List Literal) × (clause_of known r ≡ Some c) × (finding p c ≡ f)
-    go None e h = absurd (n (sym h))
-    go (Some c) e h = (c, e, h)
-
-pub at_clause : (known : List (Option (List Literal))) (p : Literal → Bool) (r : ℕ) (c : List Literal) → clause_of known r ≡ Some c → hint_finding known p r ≡ finding p c
-at_clause known p r c e = ap (λ (o : Option (List Literal)). option_map_or (finding p) o Open) e

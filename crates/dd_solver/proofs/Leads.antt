@@ -10,11 +10,10 @@ use Rattle.dd_derivation.specs.Derivations.{same_literal, is_among, has_variable
 use Rattle.dd_derivation.specs.lemmas.Soundness.{same_literal-refl}
 use Rattle.dd_derivation.specs.lemmas.Findings.{In, in_here, Forces, forces_from}
 use Rattle.dd_trail.specs.{declared.trail.Entry.Entry, Trails.falses}
-use Rattle.dd_trail.specs.lemmas.Trails.{falses-more, in_falses, in_falses_take, get_any}
-use Rattle.dd_solver.specs.searching.Reasons.{Follows, IsTrail}
+use Rattle.dd_trail.specs.lemmas.{Trails.falses-more, Trails.in_falses, Trails.in_falses_take, Trails.get_any, Reasons.hint_clause, Reasons.at_clause, Reasons.apart}
+use Rattle.dd_trail.specs.Reasons.{Follows, IsTrail}
 use Rattle.dd_solver.specs.searching.Analysis.{marks, Grows, AreMarked, IsMarkedClause}
-use Rattle.dd_solver.proofs.Forcing.{in_left, in_right, in_cases, in_one, falsified_all, all_falsified, forced_from, hint_clause, at_clause}
-use Rattle.dd_solver.proofs.Trails.{apart}
+use Rattle.dd_solver.proofs.Forcing.{in_left, in_right, in_cases, in_one, falsified_all, all_falsified, forced_from}
 
 -- `start` holds literals that are taken to be false when the walk has come down to place i: all literals learned so far, the negated literals of all
 -- marked entries before i, perhaps those of other entries before i, and no others

@@ -1,5 +1,4 @@
 pub mod Forcing
-pub mod Trails
 pub mod Numbers
 pub mod Leads
 pub mod Backjumps

@@ -12,38 +12,14 @@ use Rattle.dd_derivation.specs.declared.step.Step.{Step}
 use Rattle.dd_derivation.specs.Derivations.{same_literal, is_among, has_variable, is_proper, is_conflict, hint_finding, finding, clause_of, clauses_before, are_deletable, known_after}
 use Rattle.dd_derivation.specs.{checking.MarksOf.known_of, lemmas.Soundness.same_literal-eq, lemmas.Soundness.all_false}
 use Rattle.dd_derivation.specs.lemmas.{Falses.same_variable, Findings.In, Findings.forces_from, Numbers.length-before}
-use Rattle.dd_trail.specs.{declared.trail.Entry.Entry, Trails.falses, lemmas.Trails.in-has_variable}
+use Rattle.dd_trail.specs.{declared.trail.Entry.Entry, Trails.falses, Reasons.AreInRange, Reasons.EntryOk, lemmas.Trails.in-has_variable}
+use Rattle.dd_trail.specs.lemmas.Reasons.{all_in, at_clause, trail_push, trail_front}
 use Rattle.dd_solver.specs.declared.analysis.Backjump.{Backjump}
-use Rattle.dd_solver.specs.searching.Reasons.{all_known, AreInRange, EntryOk}
 use Rattle.dd_solver.specs.searching.{Analysis.is_rightly_learned, Analysis.Asserts, Deleting.MayDelete}
-use Rattle.dd_solver.specs.searching.Search.{State, after_step, known_through, known, IsSearch, AreAlive, AreOpen, GoesOn}
-use Rattle.dd_solver.proofs.{Forcing.all_falsified, Forcing.hint_clause, Forcing.at_clause, Trails.trail_push, Trails.trail_front}
+use Rattle.dd_solver.specs.searching.Search.{State, all_known, after_step, known_through, known, IsSearch, AreAlive, AreOpen, GoesOn}
+use Rattle.dd_solver.proofs.Forcing.{all_falsified}
 use Rattle.dd_solver.proofs.Numbers.{Known, known_left, known_within, past_none, in_list, length-all, holds_of_clause, before-more, known_of-push, all_alive, after_push, length-after}
 use Rattle.dd_solver.proofs.Derived.{through_more, length-through, trail_after, hint_new, in_range_after, right_from, derived_more, refutes_last}
-
-pub all_in : (P : Literal → Type 0) (c : List Literal) (x : Literal) → All P c → In c x → P x
-all_in P [] x a i = absurd (false≢true i)
-all_in P (y ∷ c) x a i = elim (or_cases (same_literal x y) (is_among c x) i) [
-  | inl e ↦ subst P (sym (same_literal-eq x y e)) (All-head P y c a)
-  | inr j ↦ all_in P c x (All-tail P y c a) j
-]
-
--- a forced literal is in range
-pub forced_in_range : (known : Known) (n : ℕ) (p : Literal → Bool) (r : ℕ) (l : Literal) → AreInRange n known → hint_finding known p r ≡ Forced l → IsLiteralInRange n l
-forced_in_range known n p r l a h =
-    let q = hint_clause known p r (Forced l) (λ e. cc) h in
-    all_in (IsLiteralInRange n) q.0 l (a r q.0 q.1) (forces_from p q.0 l q.2).member
-
--- no false literal has the variable of a forced literal
-pub forced_new : (known : List (Option (List Literal))) (xs : List Literal) (r : ℕ) (l : Literal) → hint_finding known (is_among xs) r ≡ Forced l → has_variable l.variable xs ≡ false
-forced_new known xs r l h = false_from_ne_true _ (λ t.
-    let q = hint_clause known (is_among xs) r (Forced l) (λ e. cc) h in
-    let f = forces_from (is_among xs) q.0 l q.2 in
-    let w = in-has_variable xs l.variable t in
-    elim (same_variable w.0 l w.2) [
-      | inl e ↦ false≢true (sym f.not_false ∙ subst (In xs) e w.1)
-      | inr e ↦ false≢true (sym f.not_true ∙ subst (In xs) e w.1)
-    ])
 
 -- if `hint_finding` is `Open` for each number from 1 to the last one, it is `Open` for every number, because no other number has a clause
 pub all_open : (known : Known) (p : Literal → Bool) → ((r : ℕ) → 0 < r → r ≤ length known → hint_finding known p r ≡ Open) → (r : ℕ) → hint_finding known p r ≡ Open
@@ -52,13 +28,6 @@ all_open known p h (suc k) = elim (cases_lt (length known) (suc k)) [
   | inl past ↦ ap (λ (o : Option (List Literal)). option_map_or (finding p) o Open) (past_none known (suc k) past)
   | inr within ↦ h (suc k) (omega arith) within
 ]
-
-pub entry_forced : (n : ℕ) (known : Known) (trail : List Entry) (r : ℕ) (l : Literal) → AreInRange n known → hint_finding known (is_among (falses trail)) r ≡ Forced l → EntryOk n known trail (record { literal = l; reason = Some r })
-entry_forced n known trail r l a h = record {
-  in_range = forced_in_range known n (is_among (falses trail)) r l a h;
-  fresh = forced_new known (falses trail) r l h;
-  follows = h;
-}
 
 module _ (n : ℕ) (cs : List (List Literal)) (steps : List Step) (trail : List Entry) (s : IsSearch (record { variables = n; clauses = cs; steps = steps; entries = trail })) where
   pub search_push : (e : Entry) → EntryOk n (known_through (all_known cs) steps) trail e → IsSearch (record { variables = n; clauses = cs; steps = steps; entries = trail ++ e ∷ [] })

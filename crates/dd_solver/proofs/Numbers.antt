@@ -8,7 +8,7 @@ use Rattle.dd_clause.specs.declared.clause.Literal.{Literal}
 use Rattle.dd_derivation.specs.declared.step.Step.{Step}
 use Rattle.dd_derivation.specs.Derivations.{clause_of, without, are_deletable, known_after, clauses_before}
 use Rattle.dd_derivation.specs.checking.MarksOf.{known_of}
-use Rattle.dd_solver.specs.searching.Reasons.{all_known}
+use Rattle.dd_solver.specs.searching.Search.{all_known}
 
 abbrev pub Known : Type 0
 Known = List (Option (List Literal))

@@ -4,7 +4,7 @@ use Rattle.std.proofs.lemmas.Bool.{or_left, or_right, and_from, false≢true, le
 use Rattle.std.proofs.lemmas.List.{get_or-drop, length-drop}
 use Rattle.dd_clause.specs.declared.clause.Literal.{Literal}
 use Rattle.dd_derivation.specs.{declared.step.Step.Step, Derivations.is_empty, Derivations.refutes}
-use Rattle.dd_solver.specs.{searching.Reasons.all_known, Trimming.is_hint, Trimming.are_used}
+use Rattle.dd_solver.specs.{searching.Search.all_known, Trimming.is_hint, Trimming.are_used}
 use Rattle.dd_solver.specs.searching.Marking.{IsNeeded, IsMarking, numbers_from, renamed, kept_steps}
 use Rattle.dd_trail.specs.lemmas.Trails.{get_any}
 use Rattle.dd_solver.proofs.Kept.{Agree, hinted_by, IsPlanned, Plan, refutes_kept, used_kept}

@@ -1,6 +1,6 @@
 -- The search ends: the trail's number is below 3 ^ n, and rises with each entry that is added and with each backjump.
-use Rattle.std.proofs.Common.{◌≡◌, ℕ, zero, suc, ◌-◌, ◌*◌, ◌^◌, ◌<◌, Bool, true, false, List, [], ◌∷◌, ◌++◌, length, refl, sym, arith, take, drop, get_or, take-append-drop, drop-cons, ap, ◌∙◌}
-use Rattle.std.proofs.{lemmas.List.map-append, Math.Nat.pow-succ'}
+use Rattle.std.proofs.Common.{◌≡◌, ℕ, zero, suc, ◌-◌, ◌*◌, ◌^◌, ◌<◌, ◌≤◌, Bool, true, false, List, [], ◌∷◌, ◌++◌, length, refl, sym, arith, take, drop, get_or, take-append-drop, drop-cons, ap, ◌∙◌, subst}
+use Rattle.std.proofs.{lemmas.List.map-append, lemmas.List.take-map, Math.Nat.pow-succ'}
 use Rattle.std.specs.Option.{is_none}
 use Rattle.dd_trail.specs.declared.trail.Entry.{Entry}
 use Rattle.dd_solver.specs.searching.Search.{trail_number, decisions}
@@ -34,6 +34,14 @@ number_rises-return zero ds es h = absurd (omega arith)
 number_rises-return (suc n) [] es h = omega (arith, positive n, number_below n es)
 number_rises-return (suc n) (x ∷ ds) es h = omega (arith, number_rises-return n ds es (omega arith))
 
+-- a trail's number is at least that of each trail with which it begins
+number_front : (n k : ℕ) (ds : List Bool) → trail_number n (take k ds) ≤ trail_number n ds
+unfolding trail_number
+number_front n zero ds = omega arith
+number_front n (suc k) [] = omega arith
+number_front zero (suc k) (d ∷ ds) = omega arith
+number_front (suc n) (suc k) (d ∷ ds) = omega (arith, number_front n k ds)
+
 -- how far the number of a trail over n variables is from its bound
 abbrev pub room : ℕ → List Entry → ℕ
 room n trail = 3 ^ n - trail_number n (decisions trail)
@@ -47,6 +55,12 @@ length-decisions (e ∷ trail) = ap suc (length-decisions trail)
 
 decisions-append : (xs ys : List Entry) → decisions (xs ++ ys) ≡ decisions xs ++ decisions ys
 decisions-append xs ys = map-append (λ e. is_none e.reason) xs ys
+
+pub kept_falls : (n : ℕ) (older newer : List Entry) → take (length older) newer ≡ older → room n newer ≤ room n older
+kept_falls n older newer h =
+    let m : take (length older) (decisions newer) ≡ decisions older = take-map (λ e. is_none e.reason) (length older) newer ∙ ap decisions h in
+    let l : trail_number n (decisions older) ≤ trail_number n (decisions newer) = subst (λ (ds : List Bool). trail_number n ds ≤ trail_number n (decisions newer)) m (number_front n (length older) (decisions newer)) in
+    omega (arith, l)
 
 pub push_falls : (n : ℕ) (trail : List Entry) (e : Entry) → length trail < n → room n (trail ++ e ∷ []) < room n trail
 push_falls n trail e h =

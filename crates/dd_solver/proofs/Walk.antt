@@ -6,7 +6,8 @@ use Rattle.dd_clause.specs.{declared.clause.Literal.Literal, Clauses.negation}
 use Rattle.dd_derivation.specs.declared.propagation.Finding.TheVariants.{Falsified}
 use Rattle.dd_derivation.specs.Derivations.{is_among, hint_finding, is_proper}
 use Rattle.dd_trail.specs.{declared.trail.Entry.Entry, Trails.falses}
-use Rattle.dd_solver.specs.{declared.analysis.Backjump.Backjump, declared.analysis.Choice.TheVariants.Keep, searching.Reasons.IsTrail}
+use Rattle.dd_solver.specs.{declared.analysis.Backjump.Backjump, declared.analysis.Choice.TheVariants.Keep}
+use Rattle.dd_trail.specs.Reasons.{IsTrail}
 use Rattle.dd_solver.specs.searching.Analysis.{marks, Grows, IsMarkedClause, ChoiceSays, Asserts}
 use Rattle.dd_solver.proofs.Leads.{Leads, AreFrom, covers_from, leads_conflict, leads_past, leads_kept, leads_forced, proper_more, later_more, later_past}
 use Rattle.dd_solver.proofs.Backjumps.{BackjumpIs, backjump_past, backjump_resolved, backjump_kept, backjump_asserts}

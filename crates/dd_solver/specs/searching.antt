@@ -1,4 +1,3 @@
-pub mod Reasons
 pub mod Analysis
 pub mod Deleting
 pub mod Search

@@ -7,7 +7,7 @@ ghost use Rattle.dd_derivation.specs.declared.propagation.Finding.TheVariants.{F
 ghost use Rattle.dd_derivation.specs.Derivations.{hint_finding, is_among};
 ghost use Rattle.dd_trail.specs.declared.trail.Entry.{Entry};
 ghost use Rattle.dd_trail.specs.Trails.{falses};
-ghost use Rattle.dd_solver.specs.searching.Reasons.{IsTrail, AreInRange};
+ghost use Rattle.dd_trail.specs.Reasons.{IsTrail, AreInRange};
 ghost use Rattle.dd_solver.specs.searching.Analysis.{Grows, AreMarked, IsMarkedClause, is_rightly_learned, IsPlace, IsBackjump, ChoiceSays, Asserts};
 
 use dd_clause::Literal;

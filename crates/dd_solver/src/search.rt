@@ -20,7 +20,7 @@ use crate::analysis::{Backjump, learn};
 use crate::deletion::Deletion;
 use dd_clause::{Assignment, Clause, Cnf};
 use dd_derivation::{Outcome, Step, delete_named};
-use dd_trail::{Database, Entry, Order, Scan, Style, Trail, Watches};
+use dd_trail::{Database, Entry, Order, Style, Trail, Watches};
 use dd_values::Items;
 use std::alloc::{AllocError, Global};
 use std::marker::Model;
@@ -109,26 +109,10 @@ impl<'a> Search<'a> {
     fn propagate(&mut self) -> Result<Option<u64>, AllocError>
         ensures same { (self.new.variables ≡ self.old.variables) × (self.new.clauses ≡ self.old.clauses) × (self.new.steps ≡ self.old.steps) }
         ensures conflict { IfOk result (λ conflict. MatchOption conflict (IsFull self.new.variables self.new.entries → AreOpen self.new) (IsFalsified self.new)) }
-        ensures left { OnOk result (left self.new ≤ left self.old) }
+        ensures left { left self.new ≤ left self.old }
     {
-        'rounds: loop {
-            let database = Database::new(
-                self.clauses,
-                self.steps.as_slice(),
-                self.alive.as_slice(),
-            );
-            let found = self.watches.find(&database, &self.trail)?;
-            match found {
-                Scan::Conflict(number) => return Ok(Some(number)),
-                Scan::Unit(number, literal) => {
-                    self.trail.assign(Entry {
-                        literal,
-                        reason: Some(number),
-                    })?;
-                }
-                Scan::Nothing => return Ok(None),
-            }
-        }
+        let database = Database::new(self.clauses, self.steps.as_slice(), self.alive.as_slice());
+        self.watches.propagate(&database, &mut self.trail)
     }
 
     /// Decides a variable that has no value. Returns false if each variable has one.

@@ -1,6 +1,8 @@
 -- trails: the literals that are true, those that are false, and which variables have a value
 pub mod Trails
--- what unit propagation finds when it looks at clauses
+-- why each literal of a trail is true
+pub mod Reasons
+-- what unit propagation finds when it looks at clauses, and how it extends a trail
 pub mod Propagation
 -- lemmas on trails, with their proofs
 pub mod lemmas

@@ -16,6 +16,5 @@ mod watches;
 
 pub use database::Database;
 pub use order::{Order, Style};
-pub use propagation::Scan;
 pub use trail::{Entry, Trail};
 pub use watches::Watches;

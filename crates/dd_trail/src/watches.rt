@@ -1,7 +1,7 @@
 //! The watched literals (Moskewicz, Madigan, Zhao, Zhang and Malik 2001). Each clause with at least two literals watches two of
 //! them, and need not be looked at while neither of these two is false. So when a literal becomes false, only the clauses that
 //! watch it are looked at. When the search goes back, no watch has to be undone. The watches only suggest clauses. For each
-//! suggested clause, `look_at` tests whether it is falsified or forces a literal. So no contract depends on the watches: a
+//! suggested clause, `follow` tests whether it is falsified or forces a literal. So no contract depends on the watches: a
 //! clause that they miss only costs time. No invariant says that the places kept here are within their lists. So the code tests
 //! these places. The tests never fail.
 //!
@@ -10,12 +10,13 @@
 //! one after the other. To pass a watcher is to look for a literal that its clause can watch instead of the false one. This is
 //! not needed if the watcher's other literal is true, or if the other literal that the clause watches is true. A passed watcher
 //! stays in the list, or moves to the list of the literal that its clause now watches.
-ghost use Rattle.std.specs.Prelude.{◌≡◌, ◌<◌, ◌^◌, length, IfOk, MatchOption, ⊤};
+ghost use Rattle.std.specs.Prelude.{◌<◌, ◌^◌, length, IfOk, MatchOption, ⊤};
 ghost use Rattle.dd_trail.specs.Trails.{falses, IsFull};
-ghost use Rattle.dd_trail.specs.Propagation.{Says, AreOpenBetween};
+ghost use Rattle.dd_trail.specs.Reasons.{AreInRange, IsTrail};
+ghost use Rattle.dd_trail.specs.Propagation.{AreOpenBetween, IsConflict, Extends};
 
 use crate::database::Database;
-use crate::propagation::{Scan, look_at, scan_between};
+use crate::propagation::{Scan, follow, scan_between};
 use crate::trail::{Trail, code_of};
 use dd_clause::Literal;
 use std::alloc::{AllocError, Global};
@@ -352,14 +353,18 @@ impl Watches {
         }
     }
 
-    /// Reads the entries of the trail that have not been read yet, until a clause is falsified or forces a literal.
-    fn read(&mut self, database: &Database, trail: &Trail) -> Result<Scan, AllocError>
-        ensures { IfOk result (Says database.now (falses trail.now.entries) ⊤) }
+    /// Reads the entries of the trail that have not been read yet, and makes each literal true that a clause forces. Stops at a
+    /// falsified clause, and returns its number. Returns `None` if it finds no such clause.
+    fn read(&mut self, database: &Database, trail: &mut Trail) -> Result<Option<u64>, AllocError>
+        requires in_range { AreInRange trail.old.variables database.now }
+        requires trail { IsTrail trail.old.variables database.now trail.old.entries }
+        ensures extends { Extends database.now trail.old trail.new }
+        ensures conflict { IfOk result (λ conflict. MatchOption conflict ⊤ (IsConflict database.now trail.new.entries)) }
     {
-        let entries = trail.entries();
         // The loop ends long before its bound. A `loop` would need a proof that it ends, and nothing is proved about the places.
         for _ in 0..u64::MAX {
             let read = self.read;
+            let entries = trail.entries();
             if read >= entries.len() {
                 break;
             }
@@ -369,48 +374,53 @@ impl Watches {
                     self.read = read.saturating_add(1);
                     self.at = 0;
                 }
-                Some(clause) => match look_at(database, trail, self.number(clause)) {
-                    Scan::Nothing => {}
-                    Scan::Unit(number, literal) => return Ok(Scan::Unit(number, literal)),
-                    Scan::Conflict(number) => {
+                Some(clause) => {
+                    if let Some(number) = follow(database, trail, self.number(clause))? {
                         self.exchange(became_false);
                         self.at = 0;
-                        return Ok(Scan::Conflict(number));
+                        return Ok(Some(number));
                     }
-                },
+                }
             }
         }
-        Ok(Scan::Nothing)
+        Ok(None)
     }
 
-    /// Looks for a clause that is falsified or forces a literal. First reads on along the trail. Then looks at each new clause,
-    /// as a clause with fewer than two literals watches none. Last, if each variable has a value, looks at all clauses once
-    /// more. Only in this case does `Nothing` promise that no clause is falsified or forces a literal.
-    pub fn find(&mut self, database: &Database, trail: &Trail) -> Result<Scan, AllocError>
-        requires { trail.now.variables < 2 ^ 32 }
-        ensures { IfOk result (Says database.now (falses trail.now.entries) (IsFull trail.now.variables trail.now.entries → AreOpenBetween database.now (falses trail.now.entries) 0 (length database.now))) }
+    /// Makes each literal true that a clause forces, until it finds a falsified clause, or finds no clause that forces a
+    /// literal. Returns the number of the falsified clause, or `None`. First reads on along the trail. Then looks at each new
+    /// clause, as a clause with fewer than two literals watches none. Last, if each variable has a value, looks at all clauses
+    /// once more. Only in this case does `None` promise that no clause is falsified or forces a literal.
+    pub fn propagate(
+        &mut self,
+        database: &Database,
+        trail: &mut Trail,
+    ) -> Result<Option<u64>, AllocError>
+        requires in_range { AreInRange trail.old.variables database.now }
+        requires trail { IsTrail trail.old.variables database.now trail.old.entries }
+        ensures extends { Extends database.now trail.old trail.new }
+        ensures conflict { IfOk result (λ conflict. MatchOption conflict (IsFull trail.new.variables trail.new.entries → AreOpenBetween database.now (falses trail.new.entries) 0 (length database.now)) (IsConflict database.now trail.new.entries)) }
     {
-        match self.read(database, trail)? {
-            Scan::Conflict(number) => return Ok(Scan::Conflict(number)),
-            Scan::Unit(number, literal) => return Ok(Scan::Unit(number, literal)),
-            Scan::Nothing => {}
+        if let Some(number) = self.read(database, trail)? {
+            return Ok(Some(number));
         }
         let count = database.count();
-        match scan_between(database, trail, self.scanned, count) {
-            Scan::Conflict(number) => return Ok(Scan::Conflict(number)),
-            Scan::Unit(number, literal) => {
-                self.scanned = number;
-                return Ok(Scan::Unit(number, literal));
+        for place in self.scanned..count {
+            if let Some(number) = follow(database, trail, place + 1)? {
+                return Ok(Some(number));
             }
-            Scan::Nothing => self.scanned = count,
+            self.scanned = place + 1;
+            if let Some(number) = self.read(database, trail)? {
+                return Ok(Some(number));
+            }
         }
         if !trail.is_full() {
-            return Ok(Scan::Nothing);
+            return Ok(None);
         }
         match scan_between(database, trail, 0, count) {
-            Scan::Conflict(number) => Ok(Scan::Conflict(number)),
-            Scan::Unit(number, literal) => Ok(Scan::Unit(number, literal)),
-            Scan::Nothing => Ok(Scan::Nothing),
+            Scan::Conflict(number) => Ok(Some(number)),
+            // This never happens: no clause forces a literal if each variable has a value.
+            Scan::Unit(_, _) => Ok(None),
+            Scan::Nothing => Ok(None),
         }
     }
 }

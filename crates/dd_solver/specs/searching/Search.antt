@@ -5,9 +5,8 @@ use Rattle.dd_derivation.specs.declared.propagation.Finding.TheVariants.{Falsifi
 use Rattle.dd_derivation.specs.declared.step.Step.{Step}
 use Rattle.dd_derivation.specs.Derivations.{clause_of, hint_finding, is_among, known_after, is_right, refutes}
 use Rattle.dd_derivation.specs.checking.MarksOf.{known_to}
-use Rattle.dd_trail.specs.{declared.trail.Entry.Entry, Trails.falses}
+use Rattle.dd_trail.specs.{declared.trail.Entry.Entry, Trails.falses, Reasons.AreInRange, Reasons.IsTrail}
 use Rattle.dd_solver.specs.declared.analysis.Backjump.{Backjump}
-use Rattle.dd_solver.specs.searching.Reasons.{all_known, AreInRange, IsTrail}
 
 -- the number of variables, the clauses, the steps learned so far, and the trail, which lists the true literals in the order in which they became true
 pub record State : Type 0 where
@@ -15,6 +14,10 @@ pub record State : Type 0 where
   pub clauses : List (List Literal)
   pub steps : List Step
   pub entries : List Entry
+
+-- the clauses by number, none of them deleted
+abbrev pub all_known : List (List Literal) → List (Option (List Literal))
+all_known clauses = map (λ c. Some c) clauses
 
 -- the known clauses after a step
 abbrev pub after_step : List (Option (List Literal)) → Step → List (Option (List Literal))

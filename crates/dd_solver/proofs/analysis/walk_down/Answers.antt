@@ -1,6 +1,7 @@
 use Rattle.std.proofs.Common.{◌≡◌, ℕ, ◌+◌, ◌-◌, ◌<◌, List, [], ◌∷◌, ◌++◌, length, true, false, None, sym, subst, get_or, arith}
 use Rattle.dd_trail.specs.declared.trail.Entry.{Entry}
-use Rattle.dd_solver.specs.searching.{Reasons.IsTrail, Analysis.marks}
+use Rattle.dd_trail.specs.Reasons.{IsTrail}
+use Rattle.dd_solver.specs.searching.Analysis.{marks}
 use Rattle.dd_solver.proofs.Walk.{Walk, walk_start, walk_past, walk_kept, walk_resolved, walk_backjump}
 use Rattle.dd_solver.proofs.analysis.walk_down.Goals as goal
 

@@ -2,7 +2,7 @@ use Rattle.std.proofs.Common.{◌≡◌, take, drop, true, [], ◌++◌, length,
 use Rattle.std.proofs.lemmas.List.{length-take, length-append, length-drop}
 use Rattle.std.specs.Option.{MatchOption}
 use Rattle.dd_derivation.specs.declared.step.Step.{Step}
-use Rattle.dd_solver.specs.searching.{Reasons.all_known, Analysis.is_rightly_learned, Analysis.Asserts}
+use Rattle.dd_solver.specs.searching.{Search.all_known, Analysis.is_rightly_learned, Analysis.Asserts}
 use Rattle.dd_solver.specs.searching.{Deleting.MayDelete, Search.known_through}
 use Rattle.dd_solver.proofs.Moves.{search_learned, alive_more, goes_on}
 use Rattle.dd_solver.proofs.search.Search.analyse.Goals as goal

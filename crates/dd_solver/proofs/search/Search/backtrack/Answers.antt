@@ -2,8 +2,9 @@ use Rattle.std.proofs.Common.{◌≡◌, false, ◌+◌, ◌<◌, None, Some, le
 use Rattle.std.specs.Option.{is_none}
 use Rattle.dd_derivation.specs.Derivations.{is_among}
 use Rattle.dd_trail.specs.{declared.trail.Entry.Entry, Trails.falses}
-use Rattle.dd_solver.specs.searching.{Reasons.all_known, Search.State, Search.IsForced, Search.known_through}
-use Rattle.dd_solver.proofs.Moves.{forced_in_range, forced_new, entry_forced, search_push, search_front}
+use Rattle.dd_solver.specs.searching.{Search.all_known, Search.State, Search.IsForced, Search.known_through}
+use Rattle.dd_trail.specs.lemmas.Reasons.{forced_in_range, forced_new, entry_forced}
+use Rattle.dd_solver.proofs.Moves.{search_push, search_front}
 use Rattle.dd_solver.proofs.Rises.{backjump_falls}
 use Rattle.dd_solver.proofs.search.Search.backtrack.Goals as goal
 

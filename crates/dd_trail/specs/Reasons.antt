@@ -1,13 +1,9 @@
 -- Why each literal of a trail is true: it was decided, or a known clause forces it.
-use Rattle.std.specs.Prelude.{◌≡◌, ℕ, ◌<◌, false, List, map, Option, Some, None, length, take, slice_index_or, ⊤}
+use Rattle.std.specs.Prelude.{◌≡◌, ℕ, ◌<◌, false, List, Option, Some, None, length, take, slice_index_or, ⊤}
 use Rattle.dd_clause.specs.{declared.clause.Literal.Literal, Clauses.IsLiteralInRange, Clauses.IsClauseInRange}
 use Rattle.dd_derivation.specs.declared.propagation.Finding.TheVariants.{Forced}
 use Rattle.dd_derivation.specs.Derivations.{is_among, has_variable, clause_of, hint_finding}
 use Rattle.dd_trail.specs.{declared.trail.Entry.Entry, Trails.falses}
-
--- the clauses by number, none of them deleted
-abbrev pub all_known : List (List Literal) → List (Option (List Literal))
-all_known clauses = map (λ c. Some c) clauses
 
 -- the variables of each known clause are between 1 and n
 abbrev pub AreInRange : ℕ → List (Option (List Literal)) → Type 0

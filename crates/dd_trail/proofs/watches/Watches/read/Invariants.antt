@@ -1,0 +1,5 @@
+use Rattle.dd_trail.specs.Propagation.{Extends}
+use Rattle.dd_trail.proofs.watches.Watches.read.Given as goal
+
+abbrev pub invariant-loop : goal.invariant-loop
+invariant-loop l = Extends l.database l.initial.trail l.trail
