@@ -1,12 +1,11 @@
 -- What a clause forces, in terms of its literals.
-use Rattle.std.proofs.Common.{◌≡◌, ℕ, Bool, true, false, cond, not, ◌&&◌, List, [], ◌∷◌, ◌++◌, Option, Some, None, refl, ap, sym, ◌∙◌, subst, inl, inr, ◌⊎◌}
+use Rattle.std.proofs.Common.{◌≡◌, Bool, true, false, cond, not, ◌&&◌, List, [], ◌∷◌, ◌++◌, refl, sym, ◌∙◌, subst, inl, inr, ◌⊎◌}
 use Rattle.std.proofs.lemmas.Bool.{cases_Bool, and_from, or_cases, or_left, or_right, false≢true}
 use Rattle.std.proofs.lemmas.List.Folds.{list_any-append}
-use Rattle.std.specs.{List.list_all, Option.option_map_or}
+use Rattle.std.specs.{List.list_all}
 use Rattle.dd_clause.specs.{declared.clause.Literal.Literal, Clauses.negation}
-use Rattle.dd_derivation.specs.declared.propagation.Finding.{Finding}
 use Rattle.dd_derivation.specs.declared.propagation.Finding.TheVariants.{Falsified, Forced, Open}
-use Rattle.dd_derivation.specs.Derivations.{same_literal, finding_of, finding, clause_of, hint_finding}
+use Rattle.dd_derivation.specs.Derivations.{same_literal, finding_of, finding}
 use Rattle.dd_derivation.specs.lemmas.Soundness.{same_literal-eq, same_literal-refl}
 use Rattle.dd_derivation.specs.lemmas.Findings.{In, in_here, left_of, in_left_of, of_left, Forces}
 

@@ -1,18 +1,18 @@
 -- Each move of the search keeps its invariant. A move adds an entry, cuts the trail, or adds a learned step.
 use Rattle.std.proofs.Common.{◌≡◌, ℕ, zero, suc, ◌+◌, ◌<◌, ◌≤◌, Bool, true, false, not, List, [], ◌∷◌, ◌++◌, Option, Some, None, refl, ap, sym, ◌∙◌, subst, length, get_or, take, inl, inr, arith}
-use Rattle.std.proofs.lemmas.Bool.{or_cases, and_parts, cases_lt, false≢true, true_from_ne_false, false_from_ne_true}
+use Rattle.std.proofs.lemmas.Bool.{and_parts, cases_lt, false≢true, true_from_ne_false}
 use Rattle.std.proofs.lemmas.List.{length-append, length-replicate, append-nil}
-use Rattle.std.proofs.lemmas.{List.Elements.All-head, List.Elements.All-tail, Option.slice_get-get_or}
+use Rattle.std.proofs.lemmas.{Option.slice_get-get_or}
 use Rattle.std.specs.{Prelude.replicate, List.All, List.slice_get, Option.MatchOption, Option.option_map_or}
 use Rattle.dd_clause.specs.declared.clause.Literal.{Literal}
 use Rattle.dd_clause.specs.Clauses.{IsLiteralInRange, IsClauseInRange, is_true_under, is_clause_true, Satisfies}
 use Rattle.dd_values.specs.Variables.{true_variables}
-use Rattle.dd_derivation.specs.declared.propagation.Finding.TheVariants.{Falsified, Forced, Open}
+use Rattle.dd_derivation.specs.declared.propagation.Finding.TheVariants.{Falsified, Open}
 use Rattle.dd_derivation.specs.declared.step.Step.{Step}
-use Rattle.dd_derivation.specs.Derivations.{same_literal, is_among, has_variable, is_proper, is_conflict, hint_finding, finding, clause_of, clauses_before, are_deletable, known_after}
-use Rattle.dd_derivation.specs.{checking.MarksOf.known_of, lemmas.Soundness.same_literal-eq, lemmas.Soundness.all_false}
-use Rattle.dd_derivation.specs.lemmas.{Falses.same_variable, Findings.In, Findings.forces_from, Numbers.length-before}
-use Rattle.dd_trail.specs.{declared.trail.Entry.Entry, Trails.falses, Reasons.AreInRange, Reasons.EntryOk, lemmas.Trails.in-has_variable}
+use Rattle.dd_derivation.specs.Derivations.{is_among, has_variable, is_proper, is_conflict, hint_finding, finding, clause_of, clauses_before, are_deletable, known_after}
+use Rattle.dd_derivation.specs.{checking.MarksOf.known_of, lemmas.Soundness.all_false}
+use Rattle.dd_derivation.specs.lemmas.{Falses.same_variable, Findings.In, Numbers.length-before}
+use Rattle.dd_trail.specs.{declared.trail.Entry.Entry, Trails.falses, Reasons.EntryOk, lemmas.Trails.in-has_variable}
 use Rattle.dd_trail.specs.lemmas.Reasons.{all_in, at_clause, trail_push, trail_front}
 use Rattle.dd_solver.specs.declared.analysis.Backjump.{Backjump}
 use Rattle.dd_solver.specs.searching.{Analysis.is_rightly_learned, Analysis.Asserts, Deleting.MayDelete}

@@ -13,10 +13,10 @@ use dd_trail::{Database, Entry, Trail};
 use std::alloc::{AllocError, Global};
 
 /// The number of learned clauses at the first review.
-const FIRST_REVIEW: usize = 4000;
+const FIRST_REVIEW: usize = 700;
 
 /// The gap at the start. The gap is the number of clauses that are learned between one review and the next.
-const FIRST_GAP: usize = 2000;
+const FIRST_GAP: usize = 700;
 
 /// Each review adds this to the gap, and the next review is due after the longer gap.
 const GAP_GROWTH: usize = 300;

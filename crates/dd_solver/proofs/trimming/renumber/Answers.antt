@@ -1,4 +1,4 @@
-use Rattle.std.proofs.Common.{◌≡◌, ◌<◌, get_or, length, refl, arith, slice_set}
+use Rattle.std.proofs.Common.{get_or, arith}
 use Rattle.std.proofs.lemmas.List.Edits.{map_over_more}
 use Rattle.dd_trail.specs.lemmas.Trails.{get_any}
 use Rattle.dd_solver.specs.searching.Marking.{renamed}
