@@ -61,10 +61,13 @@ fn mark_literals(trail: &Trail, marked: &mut [bool], literals: &[Literal]) -> us
 {
     let mut latest = 0usize;
     for literal in literals {
-        if !is_marked(marked, *literal) && trail.is_latest(literal.variable) {
-            latest = latest.saturating_add(1);
+        let place = literal.variable as usize - 1;
+        if !marked[place] {
+            marked[place] = true;
+            if trail.is_latest(literal.variable) {
+                latest = latest.saturating_add(1);
+            }
         }
-        marked[literal.variable as usize - 1] = true;
     }
     latest
 }
@@ -214,10 +217,10 @@ fn walk_down(
     let mut open = mark_clause(database, trail, marked, conflict);
     let entries = trail.entries();
     for i in (0..entries.len()).rev() {
-        let entry = entries[i];
-        if marked[entry.literal.variable as usize - 1] {
+        let literal = entries[i].literal;
+        if marked[literal.variable as usize - 1] {
             open = open.saturating_sub(1);
-            variables.push(entry.literal.variable)?;
+            variables.push(literal.variable)?;
             match choose(database, trail, marked, backjump, i, open) {
                 Choice::Resolve(reason) => {
                     hints.push(reason)?;
@@ -225,7 +228,7 @@ fn walk_down(
                     open = open.saturating_add(more);
                 }
                 Choice::Keep(next) => {
-                    literals.push(entry.literal.negation())?;
+                    literals.push(literal.negation())?;
                     backjump = Some(next);
                 }
             }

@@ -23,7 +23,7 @@ loop-i-preserved c =
     let l : j < length trail = subst (λ (xs : List Entry). j < length xs) same (omega arith) in
     let s : n ≡ length c.args.marked.now = omega arith in
     let ok : IsTrail n known trail = subst (λ (k : ℕ). IsTrail k known trail) (sym s) c.requires.trail in
-    let m : marks c.loop-i.marked (get_or trail j none).literal ≡ false = subst (λ (xs : List Entry). marks c.loop-i.marked (get_or xs j none).literal ≡ false) same c.if-marked-entry.false in
+    let m : marks c.loop-i.marked (get_or trail j none).literal ≡ false = subst (λ (xs : List Entry). marks c.loop-i.marked (get_or xs j none).literal ≡ false) same c.if-marked-literal.false in
     walk_past n known trail ok j none c.loop-i.marked c.loop-i.literals.items c.loop-i.hints.items c.loop-i.backjump l m (rw next at c.loop-i.invariant)
 
 pub loop-i-preserved-in-Keep : goal.loop-i-preserved-in-Keep
@@ -38,7 +38,7 @@ loop-i-preserved-in-Keep c =
     let l : j < length trail = subst (λ (xs : List Entry). j < length xs) same (omega arith) in
     let s : n ≡ length c.args.marked.now = omega arith in
     let ok : IsTrail n known trail = subst (λ (k : ℕ). IsTrail k known trail) (sym s) c.requires.trail in
-    let m : marks c.loop-i.marked (get_or trail j none).literal ≡ true = subst (λ (xs : List Entry). marks c.loop-i.marked (get_or xs j none).literal ≡ true) same c.if-marked-entry.true in
+    let m : marks c.loop-i.marked (get_or trail j none).literal ≡ true = subst (λ (xs : List Entry). marks c.loop-i.marked (get_or xs j none).literal ≡ true) same c.if-marked-literal.true in
     let w = walk_kept n known trail ok j none c.loop-i.marked c.loop-i.literals.items c.loop-i.hints.items c.loop-i.backjump c.in-Keep.next l m c.in-Keep.ensures (rw next at c.loop-i.invariant) in
     rw (c.in_ok-push-in-Keep.ensures.items, c.negation.ensures, same) w
 
@@ -54,7 +54,7 @@ loop-i-preserved-in-Resolve c =
     let l : j < length trail = subst (λ (xs : List Entry). j < length xs) same (omega arith) in
     let s : n ≡ length c.args.marked.now = omega arith in
     let ok : IsTrail n known trail = subst (λ (k : ℕ). IsTrail k known trail) (sym s) c.requires.trail in
-    let m : marks c.loop-i.marked (get_or trail j none).literal ≡ true = subst (λ (xs : List Entry). marks c.loop-i.marked (get_or xs j none).literal ≡ true) same c.if-marked-entry.true in
+    let m : marks c.loop-i.marked (get_or trail j none).literal ≡ true = subst (λ (xs : List Entry). marks c.loop-i.marked (get_or xs j none).literal ≡ true) same c.if-marked-literal.true in
     let more = c.mark_clause-more in
     let w = walk_resolved n known trail ok j none c.loop-i.marked more.new.marked c.loop-i.literals.items c.loop-i.hints.items c.loop-i.backjump c.in-Resolve.reason l m (c.in-Resolve.ensures none) more.ensures.grows more.ensures.marks (rw next at c.loop-i.invariant) in
     let s' : n ≡ length more.new.marked = omega arith in
