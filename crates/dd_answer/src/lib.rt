@@ -1,7 +1,7 @@
 //! Right answers to the queries of scripts. A script defines rules, configurations and automata, and asks queries about them.
 //! The question of a query holds the rules, configurations and automata that the query names. The first line of an answer says
-//! the result. The lines after it are the evidence. An answer is UNKNOWN if the query wasn't settled within the limits on the
-//! work for one answer.
+//! the result. The lines after it are the evidence. The answer UNKNOWN is right if its query isn't settled within the limits on
+//! the work for one answer and on the size of numbers.
 //!
 //! Some queries come down to box questions. A box question has a rule and a goal: a property of a position, such as that
 //! another rule is broken there. It asks whether no configuration that obeys the rule has the goal at any position. For these

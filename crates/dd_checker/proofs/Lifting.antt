@@ -75,7 +75,8 @@ module _ (s : Parts) (nodes : ℕ) (symbol_of : Cell → ℕ) (whole : IsWhole s
     asked_not_at a both (question.equality x y) ok (says_equal {n = n} {m = m} left right) = of_equality (not_at x (breaks y) n ok.0 left) (not_at y (breaks x) m ok.1 right)
     asked_not_at _ _ _ ok claim = elim claim [ ]
 
-    -- if what a YES claims is true, and the configuration obeys the premise of its question, then the goal does not hold at v
+    -- if what a YES claims is true, and the configuration obeys the premise of a box question that the YES answers, then the goal of this question
+    -- does not hold at v
     pub lifted_law : AreSound s → (number : ℕ) (a : Answer) → is_yes a ≡ true → Claim s number a → IsQueryNotAt s number look v
     lifted_law sound number a told h =
         some_then (query_at s number) (λ q. ClaimFor s q a) (λ q. IsSomeAnd (asked s q) (λ k. IsAskedNotAt k look v))

@@ -12,8 +12,8 @@ use Rattle.dd_checker.specs.Certificates.{IsCertificateFor, IsCertificate, HasQu
 use Rattle.dd_checker.specs.Claims.{ClaimFor, Claim}
 use Rattle.dd_checker.specs.declared.verdict.Verdict.TheVariants as verdict
 
--- If a test decides whether an output can hold the answer and it is a certificate for the question that the query asks, then
--- the test decides whether the answer is a certificate for the query.
+-- If a test decides whether the answer is a certificate for the question that the query asks, and one that an output can hold,
+-- then the test decides whether the answer is a certificate for the query.
 pub certificate_for : (s : Parts) (q : Query) (k : Asked) (a : Answer) (l : Limits) → asked s q ≡ Some k → l ≡ s.known.limits → (b : Bool) →
     (b ≡ true) ↔ (IsWritable a × IsCertificateOf l k a) → (b ≡ true) ↔ IsCertificateFor s q a
 certificate_for s q k a l asks limits b told =
@@ -44,8 +44,8 @@ module _ (s : Parts) (number : ℕ) (q : Query) (is : query_at s number ≡ Some
   to_query : IsCertificate s number a → IsCertificateFor s q a
   to_query h = subst (λ (o : Option Query). IsSomeAnd o (λ p. IsCertificateFor s p a)) is h
 
-  -- Suppose that the answer's claim is true if the answer is a certificate for the query. Then the claim is also true if the
-  -- answer is a certificate for the query's number.
+  -- Suppose that the answer's claim is true if the answer is a certificate for the query. Then the same holds if the query is
+  -- given by its number.
   pub claim_at : (IsCertificateFor s q a → ClaimFor s q a) → IsCertificate s number a → Claim s number a
   claim_at told h = subst (λ (o : Option Query). IsSomeAnd o (λ p. ClaimFor s p a)) (sym is) (told (to_query h))
 

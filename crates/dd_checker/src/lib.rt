@@ -11,11 +11,11 @@
 //!
 //! Some queries ask box questions. A box question has a rule, which is called its premise, and a goal: a property of a
 //! position, such as that another rule is broken there. It asks whether no configuration that obeys the premise has the goal at
-//! any position. A query about equality asks whether the same configurations obey two rules. These are two box questions. A
-//! query about an image asks whether an automaton maps the configurations that obey one rule to configurations that obey
-//! another. This is one box question. A query about a conjugacy asks whether two automata are inverse maps between the
-//! configurations that obey one rule and those that obey another. These are four box questions. The answer CONJUGATE to such a
-//! query says yes to all four. The answer YES to any other query says yes to its one or two box questions.
+//! any position. A query about equality asks whether the same configurations obey two rules. Such a query asks two box
+//! questions. A query about an image asks whether an automaton maps the configurations that obey one rule to configurations
+//! that obey another. Such a query asks one box question. A query about a conjugacy asks whether two automata are inverse maps
+//! between the configurations that obey one rule and those that obey another. Such a query asks four box questions. The answer
+//! CONJUGATE to it says yes to all four. The answer YES to any other query says yes to its one or two box questions.
 #![tactic(auto)]
 
 mod answering;

@@ -23,8 +23,8 @@ module _ (x : LocalRule) (g : GoalOf) (each : (radius : ℕ) → OneBox x g radi
   reaches : (least n : ℕ) → IsLeastRadius g least → least ≤ n → Reaches g n
   reaches least n is le = ((each n).radius least is).1 le
 
-  -- a box that suffices and a configuration that shows the goal exclude each other: the configuration's symbols in the box would be an admissible
-  -- filling with the goal at the origin
+  -- If a box suffices and holds what the goal reads at the origin, no configuration shows the goal: the symbols of such a configuration in the box
+  -- would be an admissible filling with the goal at the origin.
   never_both : (n p : ℕ) → Reaches g n → Suffices x g n → IsShown x g p → ⊥
   never_both n p reach suffices shown =
       let tile = shown.2.0 in

@@ -21,7 +21,7 @@ periods_total =
 never_itself : (p : Periods) → IsBefore p p → ⊥
 never_itself p before = let tied = tied_itself periods_total p in absurd (cc (tied, before))
 
--- no two periods each come before the other
+-- if p comes before q, then q doesn't come before p
 never_back : (p q : Periods) → IsBefore p q → IsBefore q p → ⊥
 never_back p q one other = never_itself p (periods_total.trans p q p one other)
 

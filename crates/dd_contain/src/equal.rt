@@ -1,4 +1,4 @@
-//! Whether two rules allow the same configurations. This is two box questions: for each rule, whether none of its
+//! Whether two rules allow the same configurations. This comes down to two box questions: for each rule, whether none of its
 //! configurations, which are those that obey it, breaks the other rule.
 ghost use Rattle.std.specs.Prelude.{◌≡◌, ◌≤◌, IfOk};
 ghost use Rattle.dd_boxes.specs.Goals.{breaks, IsGoalFor};

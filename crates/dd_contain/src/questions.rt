@@ -72,7 +72,7 @@ fn style_of(at: &Periods) -> Style {
 }
 
 /// The style of search for a box. It is broad, unless the goal is that two automata differ. A question with this goal depends
-/// more on the automata's gates, the variables that stand for parts of their formulas, than on the cells.
+/// more on the variables of the automata's gates, which stand for parts of the automata's formulas, than on those of the cells.
 fn box_style(goal: &Goal) -> Style {
     match goal {
         Goal::Differ(_, _) => Style::Focused,
@@ -138,8 +138,8 @@ impl<'a> Questions for BoxQuestion<'a> {
     }
 }
 
-/// Decides a box question. The first box that is tried is the smallest one that holds all that the goal reads at the origin. The
-/// radius of further boxes is at most the limit. Periods are at most their limit. The answer is:
+/// Decides a box question. The first box that is tried is the smallest one that holds all that the goal reads at the origin.
+/// The radius of further boxes is at most the limit. Periods are at most their limit. The answer is:
 /// - YES, with the least of these radii that suffices;
 /// - otherwise NO, with a configuration that obeys the premise and has the goal at the origin. Its periods and shear come first
 ///   among those of all such configurations within the limit, ordered by volume, then by x, y, z and the shear;

@@ -1,4 +1,4 @@
-//! The search for a living configuration of least weight. It consists of many searches. The first one asks for any living
+//! The search for a living configuration of least weight. It consists of several searches. The first one asks for any living
 //! configuration. A local search replaces the result by a lighter configuration, if it can. Each later search asks for a
 //! configuration that is lighter than the last one found. This one has the least weight once it weighs 0, or once a refutation
 //! shows that none is lighter. While the weight may still be far above the least weight, a search asks for a much lighter

@@ -1,7 +1,8 @@
 //! A local search for lighter configurations of a torus. Each step changes the symbol of at most one cell. While the
 //! configuration is no lighter than the best one so far, a cell gets a lighter symbol. Once the configuration is lighter, the
 //! search takes a cell where the rule is false, and one of the cells that the rule reads there gets another symbol. Whenever
-//! the configuration is lighter and the rule is true at every cell, it is the new best one.
+//! the configuration is lighter and the rule is true at every cell, `lighten_all` makes it still lighter, if it can. Then it is
+//! the new best one.
 //!
 //! Each cell has a penalty, which is 1 at first. After each step, it grows by 1 if the rule is false at the cell (Morris 1993),
 //! as in NuMVC (Cai, Su, Luo and Sattar 2013). A change is chosen so that the sum of the penalties of the cells where the rule
@@ -28,7 +29,7 @@ struct Change {
     growth: i64,
     /// How much heavier the configuration becomes.
     heavier: i64,
-    /// The step in which the cell's symbol was last changed, or 0 if it never was.
+    /// The number of the last step that changed the cell's symbol, or 0 if no step did.
     changed: u64,
     cell: usize,
     symbol: u32,
@@ -49,7 +50,7 @@ pub(crate) struct LocalSearch<'a> {
     places: Vec<usize>,
     /// For each cell, the penalty for the rule being false there.
     penalties: Vec<i64>,
-    /// For each cell, the step in which its symbol was last changed, or 0 if it never was.
+    /// For each cell, the number of the last step that changed its symbol, or 0 if no step did.
     changed: Vec<u64>,
     step: u64,
     /// How many steps in a row changed nothing.

@@ -16,14 +16,14 @@ use std::alloc::{AllocError, Global};
 /// pairs than this is kept.
 const MOST_PAIRS: usize = 1000;
 
-/// A variable is kept if one of its resolvents has more literals than this.
+/// A variable is kept if one of the resolvents that would replace its clauses has more literals than this.
 const MOST_LITERALS: usize = 20;
 
 /// The greatest number of rounds. The first round tries all variables, and each later one those whose clauses changed since
 /// they were last tried.
 const ROUNDS: usize = 10;
 
-/// Roughly the greatest number of pairs of literals that are compared. To compare so many takes about half a second.
+/// Roughly the greatest number of pairs of literals that are compared. Comparing that many takes about half a second.
 const MOST_WORK: u64 = 100_000_000;
 
 /// A clause of the list or of a step.
@@ -53,7 +53,7 @@ struct Resolvent {
     parents: [u64; 2],
 }
 
-/// A variable to be tried. Those with the fewest pairs come first.
+/// A variable to be tried. Candidates with fewer pairs come first.
 #[derive(Clone, Copy, PartialEq, Eq, PartialOrd, Ord)]
 struct Candidate {
     /// How many pairs the variable has (see `MOST_PAIRS`).
@@ -77,8 +77,8 @@ pub(crate) struct Elimination {
     pub entries: Vec<Entry>,
     /// For each variable, by its number, the indices of the entries that have it or its negation. Some may not be alive.
     occurrences: Vec<Vec<usize>>,
-    /// For each variable, by its number, whether it is to be tried: true at first, false once it was tried, and true again once
-    /// a clause with it or its negation is removed.
+    /// For each variable, by its number, whether it is to be tried: true at first, false once it has been tried, and true again
+    /// once a clause with it or its negation has been removed.
     changed: Vec<bool>,
     /// The indices of the entries that have not been compared with the others yet.
     waiting: Vec<usize>,
@@ -127,8 +127,8 @@ impl Elimination {
     }
 
     /// The whole list, each clause with distinct variables. Clauses that hold a literal and its negation are left out. Each
-    /// clause takes the square of its length from `work`. If `work` falls to 0, the clauses are too long, and the rest of them
-    /// is left out too.
+    /// clause takes the square of its length from `work`. If `work` falls to 0 at a clause, the clauses are too long, and this
+    /// clause and all later ones are left out too.
     fn start(alloc: Global, cnf: &Cnf) -> Result<Elimination, AllocError> {
         let count = cnf.variables() as usize + 1;
         let mut occurrences: Vec<Vec<usize>> = Vec::with_capacity(alloc, count)?;
@@ -316,7 +316,7 @@ impl Elimination {
         self.derive(alloc, Resolvent { literals, parents })
     }
 
-    /// Tries to eliminate each variable whose clauses changed. Returns whether one was eliminated.
+    /// Tries to eliminate each of the candidates, until `work` is 0. Returns whether a variable was eliminated.
     fn try_changed(&mut self, alloc: Global) -> Result<bool, AllocError> {
         let candidates = self.candidates(alloc)?;
         let mut any_eliminated = false;
@@ -329,8 +329,8 @@ impl Elimination {
         Ok(any_eliminated)
     }
 
-    /// The variables whose clauses changed, those with the fewest pairs first. Variables that are in no clause, or that have
-    /// more than `MOST_PAIRS` pairs, are left out.
+    /// The variables that are to be tried (see `changed`), those with the fewest pairs first. Variables that are in no clause,
+    /// or that have more than `MOST_PAIRS` pairs, are left out.
     fn candidates(&mut self, alloc: Global) -> Result<Vec<Candidate>, AllocError> {
         let mut candidates: Vec<Candidate> = Vec::new(alloc);
         for variable in 1..=self.variables {
@@ -420,8 +420,8 @@ impl Elimination {
         Ok(true)
     }
 
-    /// Whether there are clauses with the variable or its negation, not too many pairs of them, no more resolvents than
-    /// clauses, and no resolvent that is too long.
+    /// Whether some clause has the variable or its negation, the variable has at most `MOST_PAIRS` pairs, its resolvents are no
+    /// more than the clauses that they would replace, and none of them is too long.
     fn is_worth_it(&mut self, variable: u32, sides: &Sides) -> bool {
         let most = sides.positive.len().saturating_add(sides.negative.len());
         if most == 0 || sides.positive.len().saturating_mul(sides.negative.len()) > MOST_PAIRS {
@@ -451,8 +451,8 @@ impl Elimination {
         length
     }
 
-    /// The resolvents of each clause that has the variable with each clause that has its negation, except those that hold a
-    /// literal and its negation.
+    /// All resolvents of a clause that has the variable and a clause that has its negation, except those that hold a literal
+    /// and its negation.
     fn resolvents(
         &mut self,
         alloc: Global,

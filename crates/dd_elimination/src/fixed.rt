@@ -1,6 +1,6 @@
 //! The list without the variables that unit propagation fixes, and the way back: from an answer for it to an answer for the
-//! whole list. A clause with a true literal, or with a literal and its negation, is left out. From the other clauses the false
-//! literals and the repeated ones are dropped.
+//! whole list. A fixed literal is one that unit propagation makes true. A clause with a true literal, or with a literal and its
+//! negation, is left out. From the other clauses, the false literals and the repeated ones are dropped.
 //!
 //! This makes the search faster. On the whole list, the search would meet fixed variables in its conflicts, and each time it
 //! would have to resolve with the clauses that force their values.
@@ -26,7 +26,7 @@ pub(crate) struct Remaining {
 #[derive(Drop)]
 struct Sieve<'a> {
     fixed: &'a Fixed,
-    /// The literals that are kept from the last clause.
+    /// The literals that are kept from the clause at hand.
     kept: Vec<Literal>,
     /// For each literal, at its code (see `code_of`), the number of the last clause from which it was kept, or 0 if there is
     /// none. The clauses are numbered from 1 as they are sieved.
@@ -41,7 +41,8 @@ struct Derived<'a> {
     whole: &'a [Clause],
     fixed: &'a Fixed,
     steps: Vec<Step>,
-    /// For each variable, by its number, the number of the clause that has only its true literal, or 0 if there is none.
+    /// For each fixed variable that is needed (see `more_hints`), by its number, the number of the clause whose only literal is
+    /// the variable's true literal. For each other variable, 0.
     units: Vec<u64>,
     /// For each remaining clause, its number in the whole list or among the steps, or 0 if no step of the search has it as a
     /// hint.
@@ -166,8 +167,9 @@ impl Fixed {
         Ok(Items::from_vec(refutation))
     }
 
-    /// These hints, and before them hints for the fixed literals: the clauses that force the fixed variables of the hinted
-    /// clauses, directly or through other fixed variables.
+    /// These hints, and before them hints for the fixed literals: the numbers of the clauses that force the values of the
+    /// needed variables. A fixed variable is needed if it is in a hinted clause, or in the clause that forces the value of a
+    /// needed variable.
     fn more_hints(
         &self,
         alloc: Global,
@@ -213,7 +215,7 @@ impl Fixed {
         derived.into_refutation(steps)
     }
 
-    /// Where a fixed variable is marked, marks also the variables of the clause that forces its value, and so on.
+    /// For each fixed variable that is marked, also marks the variables of the clause that forces its value, and so on.
     fn mark_reasons(&self, whole: &[Clause], marked: &mut [bool]) {
         for forced in self.forced.iter().rev() {
             if is_marked(marked, forced.literal.variable) && forced.clause < whole.len() {
@@ -247,7 +249,7 @@ impl<'a> Sieve<'a> {
         Ok(true)
     }
 
-    /// Whether the literal is kept from the last clause.
+    /// Whether the literal is kept from the clause at hand.
     fn is_kept(&self, literal: Literal) -> bool {
         self.last.get(code_of(literal)).copied() == Some(self.count)
     }
@@ -304,8 +306,8 @@ impl<'a> Derived<'a> {
         Ok(hints)
     }
 
-    /// The number of the clause that remains when the false literals of the clause at `origin` are dropped. If it has false
-    /// literals, adds a step that derives the shorter clause. `literals` are the literals that remain.
+    /// The number of the clause that remains when the false literals of the clause at `origin` are dropped. If the clause at
+    /// `origin` has false literals, adds a step that derives the shorter clause. `literals` are the literals that remain.
     fn number(
         &mut self,
         alloc: Global,
@@ -324,7 +326,7 @@ impl<'a> Derived<'a> {
         Ok((self.whole.len() as u64).saturating_add(self.steps.len() as u64))
     }
 
-    /// For each fixed variable that is needed, derives the clause that has only its true literal.
+    /// For each fixed variable that is needed, derives the clause whose only literal is the variable's true literal.
     fn push_units(&mut self, alloc: Global, needed: &[bool]) -> Result<(), AllocError> {
         for forced in self.fixed.forced.as_slice() {
             let variable = forced.literal.variable;

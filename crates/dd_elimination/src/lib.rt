@@ -6,8 +6,8 @@
 //! The whole list is the list before the elimination. The reduced list is made of the remaining clauses. An answer for a list
 //! is an assignment that satisfies it, or a refutation: a list of steps. Each step has a clause that follows from clauses
 //! before it, and hints: the numbers of the clauses that show this. First the clauses of the list are numbered, from 1, and
-//! then the steps. The last step's clause is empty. The search gives an answer for the reduced list. An answer for the whole
-//! list is made from it and checked.
+//! then the steps. The last step's clause is empty. A step may also delete clauses, which no later step may use. The search
+//! gives an answer for the reduced list. An answer for the whole list is made from it and checked.
 #![tactic(auto, using(std::proofs::lemmas::Grind::common_steps))]
 
 mod elimination;

@@ -6,7 +6,7 @@ use dd_derivation::Step;
 use dd_values::Items;
 use std::alloc::{AllocError, Global};
 
-/// The remaining clauses, and for each the number by which hints for the whole list name it. The clauses of the whole list are
+/// The remaining clauses, and for each its number in a refutation of the whole list. There, the clauses of the whole list are
 /// numbered first, and then the steps of the elimination.
 #[derive(Drop)]
 pub(crate) struct Reduced {
@@ -31,8 +31,8 @@ fn has_other_true(literals: &[Literal], variable: u32, values: &[bool]) -> bool 
 }
 
 /// Replaces numbers in a refutation of the reduced list by those in the refutation of the whole list. `numbers` has the new
-/// number of each clause of the reduced list. In the refutation of the whole list, `before` clauses and steps come before the
-/// steps of the search.
+/// number of each clause of the reduced list. `before` says how many clauses and steps come before the steps of the search in
+/// the refutation of the whole list.
 fn renumbered(numbers: &[u64], before: u64, old: Items<u64>) -> Items<u64> {
     let count = numbers.len() as u64;
     let mut renumbered = old.into_vec();
@@ -47,7 +47,7 @@ fn renumbered(numbers: &[u64], before: u64, old: Items<u64>) -> Items<u64> {
     Items::from_vec(renumbered)
 }
 
-/// The step, with the numbers of its hints and of the clauses that it deletes replaced as in `renumbered`.
+/// Replaces the hints of a step, and the numbers of the clauses that it deletes, as in `renumbered`.
 pub(crate) fn renumbered_step(numbers: &[u64], before: u64, step: Step) -> Step {
     let Step {
         clause,

@@ -50,7 +50,7 @@ RefutationsFit =
     length clauses + length steps ≤ most_count → IsWritableRefutation steps
 
 -- The weight is at most 2,000,000 if there is a cell and cells * weight * (rest + 1) is at most 2,000,000. So the limit on the clauses of a torus
--- bounds the greatest weight.
+-- bounds the weight of a fundamental box.
 weight_small : (cells weight rest : ℕ) → 1 ≤ cells → cells * (weight * suc rest) ≤ 2000000 → weight ≤ 2000000
 weight_small cells weight rest some few =
     let one = mul-le 1 (weight * suc rest) cells (weight * suc rest) some (omega arith) in

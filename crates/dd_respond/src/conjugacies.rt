@@ -1,5 +1,5 @@
-//! Answers to questions about conjugacies: whether two maps between two subshifts are inverse to each other. Such a question comes
-//! down to four box questions, its parts, which are numbered from 1. They are decided in turn, until one is answered NO.
+//! Answers to questions about conjugacies: whether two maps between two subshifts are inverse to each other. Such a question
+//! comes down to four box questions, its parts, which are numbered from 1. They are decided in turn, until one is answered NO.
 ghost use Rattle.std.specs.Prelude.{◌≡◌, ◌≤◌, ◌∷◌, ◌++◌, [], false, IfOk, OnOk, MatchOption};
 ghost use Rattle.dd_certificate.specs.Bounds.{IsWritable, IsWritableNumber, IsWritablePart};
 ghost use Rattle.dd_engines.specs.Rosters.{roster_seen};

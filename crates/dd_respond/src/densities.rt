@@ -13,7 +13,7 @@ use dd_formula::Rule;
 use dd_strips::{strip_empty, strip_least};
 use std::alloc::{AllocError, Global};
 
-/// The answer that a least density gives.
+/// The answer that the outcome gives: a least density, or that no configuration lives on the strip.
 fn written_density(density: Density) -> Answer
     ensures { result ≡ written_density density }
 {

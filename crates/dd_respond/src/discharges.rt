@@ -1,7 +1,7 @@
 //! Answers to questions about discharging. In a discharge, each position first holds its weight. Then, along each of some
 //! vectors, it gives an amount to the position at the vector's end. The pattern around the giver determines the amount. A bound
-//! is a number that each position holds at least in the end, in each admissible filling of the cells around it (see `dd_rows`).
-//! The best bound, over all such discharges, is the value of a linear program (see `dd_discharge`).
+//! is a number such that each position holds at least this number in the end, in each admissible filling of the cells around it
+//! (see `dd_rows`). The best bound, over all such discharges, is the value of a linear program (see `dd_discharge`).
 ghost use Rattle.std.specs.Prelude.{◌≡◌, IfOk};
 ghost use Rattle.dd_certificate.specs.Bounds.{IsWritable};
 ghost use Rattle.dd_discharge.specs.Printed.{IsSmallBound};
@@ -29,7 +29,7 @@ fn written_bound(bound: Bound) -> Answer
     }
 }
 
-/// The reason why there is no bound. `AllocError` if memory ran out.
+/// The reason why no bound is found. `AllocError` if memory ran out.
 #[tactic(auto, using(crate::specs::Bounds::for_large, crate::specs::Bounds::for_overflow, crate::specs::Bounds::for_pivots))]
 fn reason_of(fault: DischargeFault) -> Result<Reason, AllocError>
     ensures reason { IfOk result (IsReasonOf fault) }

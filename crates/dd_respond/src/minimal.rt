@@ -9,9 +9,9 @@ use dd_evidence::{minimal_patterns, starred_fit};
 use dd_formula::Rule;
 use std::alloc::{AllocError, Global};
 
-/// Minimal patterns that together forbid exactly what a rule forbids. A minimal pattern gives allowed symbols to some or all of
-/// the cells that the rule reads at a node, and the rule is false there whatever allowed symbols the other cells have. If one
-/// more cell is left out, this no longer holds. The rule may have other minimal patterns, which aren't listed.
+/// Minimal patterns that together forbid exactly what a rule forbids. A minimal pattern gives allowed symbols to none, some or
+/// all of the cells that the rule reads at a node, and the rule is false there whatever allowed symbols the other cells have.
+/// If one more cell is left out, this no longer holds. The rule may have other minimal patterns, which aren't listed.
 #[tactic(auto, using(dd_evidence::specs::Answers::all_minimal))]
 pub(crate) fn smallest(alloc: Global, rule: &Rule) -> Result<Answer, AllocError>
     requires { HasFewPatterns rule.now }

@@ -34,7 +34,8 @@ fn written_weight(alloc: Global, found: LeastWeight) -> Result<Answer, AllocErro
     }
 }
 
-/// The least weight of a fundamental box with these periods and no shear, over the configurations in the rule's subshift.
+/// The least weight of a fundamental box, over the configurations in the rule's subshift with these periods and no shear; or
+/// the answer that there are no such configurations.
 pub(crate) fn lightest(
     alloc: Global,
     rule: &Rule,

@@ -1,4 +1,4 @@
--- Which engines are asked as one query after another is answered, and when no engine was asked.
+-- Which engines are asked as one query after another is answered, and when no engine is asked.
 -- A comment that only says what happened names the case that its lemma is about.
 use Rattle.std.proofs.Common.{◌≡◌, ◌⊎◌, ℕ, ◌+◌, ◌<◌, ◌≤◌, List, [], ◌∷◌, ◌++◌, length, take, get_or, Bool, true, false, Some, None, refl, sym, ◌∙◌, subst, inl, inr, Result, Ok, Err}
 use Rattle.std.proofs.{KnownBytes.Appends-trans, lemmas.Bool.false≢true}
@@ -53,7 +53,7 @@ some_right s (x ∷ xs) ys asks = inr (some_right s xs ys asks)
 pub engaged_none : (s : Parts) (all : List Seen) → Engages (AsksSomeBoxes s []) all all
 engaged_none s all = record { first = λ none. absurd none; nobody = λ _. refl }
 
--- the hypothesis: if the first engine still in the roster at the end was asked since some moment, it was asked since each earlier moment
+-- the hypothesis: if the first engine still in the roster at the end was asked after some moment, it was asked after each earlier moment
 module _ (earlier : (before between after : List Seen) → Kept before between → FirstAsked between after → FirstAsked before after) where
   -- One more query was answered.
   engaged_more : (s : Parts) (queries : List Query) (q : Query) (a b c : List Seen) → Kept a b
@@ -120,7 +120,7 @@ asks_first left_old left_new before after given bytes to_end same over =
 pub same_sample : (before after : List Seen) (m n : ℕ) → m ≡ n → AsksFirstOver (sample_text m) before after → AsksFirstOver (sample_text n) before after
 same_sample before after m n is over = subst (λ (k : ℕ). AsksFirstOver (sample_text k) before after) is over
 
--- a run that came to its end has answered its queries
+-- the status of a run that came to its end never says that no query was answered
 pub never_unanswered : (has : Bool) (status : Status) → status ≡ status_of has → IsUnanswered status → ⊥
 never_unanswered true status is unanswered = let none : ⊥ = subst IsUnanswered is unanswered in none
 never_unanswered false status is unanswered = let none : ⊥ = subst IsUnanswered is unanswered in none

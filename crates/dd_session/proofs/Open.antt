@@ -11,7 +11,7 @@ use Rattle.dd_session.specs.{Answers.AllRight, Answers.IsOpenAs, Answers.has_unk
 use Rattle.dd_session.specs.{Sides.Change, Sides.status_of, Written.WholeOutput, Runs.RanOver, Runs.WholeRun}
 use Rattle.dd_values.specs.lemmas.Booleans.{or_none}
 
--- any two right answers to a query of the script have the same first line
+-- any two right answers to a query of the script have the same first line, and both are UNKNOWN or neither is
 abbrev pub AnswersAgree : Parts → Type 0
 AnswersAgree s = (q : Query) (a b : Answer) → Contains s.queries q → Right s q a → Right s q b → SayTheSame a b
 

@@ -66,7 +66,8 @@ pub record IsSession {S K : Type 0} (words : List (List ℕ)) (source : Change S
 pub record Consults {S K E : Type 0} (words : List (List ℕ)) (source : Change S) (sink : Change K) (roster : Engines E) (status : Status) : Type 0 where
   -- Each sound engine stays in the roster, in order. If the status says that no query was answered, no engine was asked.
   pub always : AreKept roster status
-  -- A run asks no engine before its whole header is written, and none for an input that is refused.
+  -- A run asks no engine before its whole header is written, and none for an input that is refused. If all its queries were answered and one of
+  -- them comes down to box questions, the first engine still in the roster, if there is one, was asked.
   pub run : IsOnly (codes "run") words → RunConsults source sink roster status
   -- A check asks no engine.
   pub check : IsOnly (codes "check") words → AreUnasked roster

@@ -31,7 +31,7 @@ change bytes faults old new =
 abbrev pub IsUntouched : {X : Type 0} → Change X → Type 0
 IsUntouched side = side.new ≡ side.old
 
--- the source or the sink failed in the call
+-- the count of faults rose in the call, in the sense of `Rose`; this holds whenever the source or the sink failed in the call
 abbrev pub HasFailed : {X : Type 0} → Change X → Type 0
 HasFailed side = Rose side.faults_old side.faults_new
 

@@ -12,9 +12,9 @@ use dd_output::one_output;
 use dd_script::Script;
 use dd_spelling::one_script;
 
-/// Does nothing. Its contract says that a check accepts all answers in the whole output of a run of a script. If the output has
-/// at most `MOST_OUTPUT` bytes, each check of it that isn't cut short (by a fault or for want of memory) ends with the status
-/// of the run.
+/// Does nothing. Its contract says that the whole output of a run of a script answers each query with a certificate. If the
+/// output has at most `MOST_OUTPUT` bytes, each check of it that isn't cut short (by a fault or for want of memory) ends with
+/// the status of the run.
 pub fn runs_are_accepted(script: &Script)
     ensures accepted { (bytes text : List ℕ) (has : Bool) → IsRunOutput bytes script.now has text → IsAllAccepted has text }
     ensures same_status { (bytes text : List ℕ) (has : Bool) (status : AnyStatus) → IsRunOutput bytes script.now has text → length text ≤ most_checked →

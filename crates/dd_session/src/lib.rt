@@ -5,8 +5,8 @@
 //!
 //! `dd_answer` defines which answers to a query are right. Any two right answers to a query have the same first line. A
 //! certificate is an answer that a check accepts. An output has bounds on its numbers and lists. Each right answer within these
-//! bounds is a certificate, and what a certificate claims is true. An answer is UNKNOWN if its query wasn't settled within the
-//! limits on the work for one answer. All other answers are definite.
+//! bounds is a certificate, and what a certificate claims is true. The answer UNKNOWN claims nothing. It is right if its query
+//! isn't settled within the limits on the work for one answer and on the size of numbers. All other answers are definite.
 //!
 //! Some queries come down to box questions. A box question has a rule (its premise) and a goal: a property of a position, such
 //! as that another rule is broken there. It asks whether no configuration that obeys the premise has the goal at any position.

@@ -6,7 +6,8 @@
 pub enum Status {
     /// Every query has a definite answer.
     Definite = 0,
-    /// Some answer is UNKNOWN: its query wasn't settled within the limits on the work for one answer.
+    /// Some answer is UNKNOWN. UNKNOWN claims nothing. It is right if its query isn't settled within the limits on the work
+    /// for one answer and on the size of numbers.
     SomeUnknown = 1,
     /// The input was refused, and no query was answered or checked.
     Refused = 2,

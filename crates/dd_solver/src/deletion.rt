@@ -213,9 +213,9 @@ impl Deletion {
         true
     }
 
-    /// Takes note of a learned clause, given by its literals and its hints. Counts its levels, and once more the levels of the
-    /// learned clauses that the hints name. Returns the numbers of the clauses to delete: none, if no review is due. `clauses`
-    /// is the number of clauses in the list.
+    /// Takes note of a learned clause, given by its literals and its hints. Counts its levels, and calls `lower` for each
+    /// clause that the hints name. Returns the numbers of the clauses to delete: none, if no review is due. `clauses` is the
+    /// number of clauses in the list.
     pub(crate) fn note_learned(
         &mut self,
         alloc: Global,

@@ -4,7 +4,7 @@ pub mod Trails
 pub mod Reasons
 -- what unit propagation finds when it looks at clauses, and how it extends a trail
 pub mod Propagation
--- lemmas on trails, with their proofs
+-- lemmas on trails and on what a clause forces, with their proofs
 pub mod lemmas
 -- the list in which a trail records which literals are false
 pub mod keeping

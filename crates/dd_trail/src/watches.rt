@@ -1,9 +1,9 @@
 //! The watched literals (Moskewicz, Madigan, Zhao, Zhang and Malik 2001). Each clause with at least two literals watches two of
 //! them, and need not be looked at while neither of these two is false. So when a literal becomes false, only the clauses that
 //! watch it are looked at. When the search goes back, no watch has to be undone. The watches only suggest clauses. For each
-//! suggested clause, `follow` tests whether it is falsified or forces a literal. So no contract depends on the watches: a
-//! clause that they miss only costs time. No invariant says that the places kept here are within their lists. So the code tests
-//! these places. The tests never fail.
+//! suggested clause, `follow` tests whether it is falsified or forces a literal, and makes a forced literal true. So no
+//! contract depends on the watches: a clause that they miss only costs time. No invariant says that the places kept here are
+//! within their lists. So the code tests these places. The tests never fail.
 //!
 //! Each literal has a list of watchers. A watcher names a clause that watches the literal, and another literal of this clause.
 //! An entry of the trail makes the negation of its literal false. To read the entry is to pass the watchers of this negation,
@@ -353,8 +353,9 @@ impl Watches {
         }
     }
 
-    /// Reads the entries of the trail that have not been read yet, and makes each literal true that a clause forces. Stops at a
-    /// falsified clause, and returns its number. Returns `None` if it finds no such clause.
+    /// Reads the entries of the trail that have not been read yet. Makes each literal true that a suggested clause forces, and
+    /// reads the literal's entry too. Stops at a falsified clause, and returns its number. Returns `None` if it finds no
+    /// falsified clause.
     fn read(&mut self, database: &Database, trail: &mut Trail) -> Result<Option<u64>, AllocError>
         requires in_range { AreInRange trail.old.variables database.now }
         requires trail { IsTrail trail.old.variables database.now trail.old.entries }
@@ -388,8 +389,9 @@ impl Watches {
 
     /// Makes each literal true that a clause forces, until it finds a falsified clause, or finds no clause that forces a
     /// literal. Returns the number of the falsified clause, or `None`. First reads on along the trail. Then looks at each new
-    /// clause, as a clause with fewer than two literals watches none. Last, if each variable has a value, looks at all clauses
-    /// once more. Only in this case does `None` promise that no clause is falsified or forces a literal.
+    /// clause, as a clause with fewer than two literals watches none, and after each look reads on again. Last, if each
+    /// variable has a value, looks at all clauses once more. Only in this case does `None` promise that no clause is falsified
+    /// or forces a literal.
     pub fn propagate(
         &mut self,
         database: &Database,

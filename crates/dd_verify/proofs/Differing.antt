@@ -21,7 +21,7 @@ module _ (x : LocalRule) (t : Tile) (fits : Fits x t) where
   }
 
   -- If the configuration has allowed symbols and lives in the premise's subshift, a test of whether the automata differ at the origin decides whether
-  -- the configuration is a witness of this goal.
+  -- the configuration is a witness of the goal that they differ.
   pub difference_decides : (f g : Automaton) → IsTile t → HasAllowed x t → Lives x t → (b : Bool) → (b ≡ true) ↔ DifferAtOrigin f g t →
       (b ≡ true) ↔ IsWitness x (differ (numbers_of x) f g) t
   difference_decides f g tile allowed lives b told = (

@@ -66,9 +66,9 @@ TellsBreaking x patterns = (look : Look) (v : Place) (a : ℕ) (ss : List ℕ) �
 pub data ListClaim (x : LocalRule) : Answer → Type 0 where
   says_list : {patterns : List Listed} → TellsBreaking x patterns → ListClaim x (answer.List patterns)
 
--- A pattern in ps has an entry for each cell that the rule reads: a symbol, or none if the pattern leaves the cell out. The symbols of these cells
--- agree with the pattern if each cell that the pattern keeps has the pattern's symbol. Take the node a of any position v. If the cells that the rule
--- reads there have allowed symbols, the rule is false there exactly when these symbols agree with one of the patterns.
+-- A pattern in ps has an entry for each cell that the rule reads at the node a: a symbol, or none if the pattern leaves the cell out. The symbols of
+-- these cells agree with the pattern if each cell that the pattern keeps has the pattern's symbol. Take the node a of any position v. If the cells
+-- that the rule reads there have allowed symbols, the rule is false there exactly when these symbols agree with one of the patterns.
 abbrev pub TellsCovered : LocalRule → ℕ → List (List (Option ℕ)) → Type 0
 TellsCovered x a ps = (look : Look) (v : Place) (ss : List ℕ) → AreReadAt x look v a ss → are_allowed x (cells_at x a) ss ≡ true →
     (is_true x (cell v a) look ≡ false) ↔ (is_covered ps ss ≡ true)

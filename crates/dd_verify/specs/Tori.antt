@@ -19,13 +19,13 @@ pub record HasWeight (x : LocalRule) (along ws : List ℕ) (w : ℕ) (symbols : 
   pub lives : IsWitness x always (torus_tile x along symbols)
   pub weighs : total_weight ws symbols ≡ w
 
--- The steps refute the clauses that ask for a configuration of weight less than w which has these periods and no shear, and lives in the rule's
--- subshift. For w = 0 there is nothing to refute.
+-- The steps refute the clauses that ask for a configuration of allowed symbols which has these periods and no shear, lives in the rule's subshift and
+-- weighs less than w. For w = 0 there is nothing to refute.
 abbrev pub IsBoundedBy : LocalRule → List ℕ → List ℕ → ℕ → List Step → Type 0
 IsBoundedBy x along ws w steps = 0 < w → IsRefuting (weight_problem x (periods_of along 0) ws w) steps
 
--- A certificate has a configuration in the rule's subshift, and steps which show that none weighs less. Or it has steps which
--- show that there is no configuration in the rule's subshift. All configurations here have these periods and no shear.
+-- A certificate has a configuration in the rule's subshift and, unless its weight is 0, steps which show that none weighs less. Or it has steps which
+-- show that there is no configuration in the rule's subshift. All configurations here have allowed symbols, these periods and no shear.
 pub data IsTorusCertificate (x : LocalRule) (along ws : List ℕ) : Answer → Type 0 where
   torus_least : {w : ℕ} {symbols : List ℕ} {steps : List Step} → HasWeight x along ws w symbols → IsBoundedBy x along ws w steps →
       IsTorusCertificate x along ws (answer.Least w symbols steps)

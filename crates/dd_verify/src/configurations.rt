@@ -1,5 +1,5 @@
-//! Tests of periodic configurations: whether one lives in a rule's subshift (obeys the rule at every cell), and whether it has a
-//! goal at the origin.
+//! Tests of periodic configurations: whether one lives in a rule's subshift (obeys the rule at every cell), and whether it has
+//! a goal at the origin.
 ghost use Rattle.std.specs.Prelude.{◌≡◌, ◌<◌, ◌↔◌, not, IsTrue, IfOk};
 ghost use Rattle.dd_lattice.specs.Cells.{cell};
 ghost use Rattle.dd_pattern.specs.Tile.{tile_look};

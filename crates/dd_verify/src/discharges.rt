@@ -57,7 +57,7 @@ fn is_bound(
     check_bound(alloc, rule, weights, radius, margin, vectors, claimed)
 }
 
-/// Whether the reason is one for which a discharge is answered UNKNOWN.
+/// Whether the reason is one for which the question about the best bound is answered UNKNOWN.
 fn is_of_discharge(reason: Reason) -> bool
     ensures { IsTrue result ↔ ((reason ≡ Reason.Large) ⊎ ((reason ≡ Reason.Overflow) ⊎ (reason ≡ Reason.Pivots))) }
 {

@@ -19,8 +19,9 @@
 //! admissible filling of the box of this radius round the origin has the goal at the origin. (A filling gives each cell of the
 //! box a symbol that the cell's node allows. It is admissible if the premise is true at each of its cells where all cells that
 //! the premise reads have symbols.) A certificate for NO has a periodic configuration of allowed symbols that lives in the
-//! premise's subshift and has the goal at the origin. The question's limits bound the radius and the periods. The answer
-//! UNKNOWN to a box question claims nothing. It is a certificate if its reason is that the limits were reached.
+//! premise's subshift and has the goal at the origin. The question's limits bound the periods. They also bound the radius,
+//! unless only a larger box has all cells that the goal reads at the origin. The answer UNKNOWN to a box question claims
+//! nothing. It is a certificate if its reason is that the limits were reached.
 #![tactic(auto)]
 
 mod answering;

@@ -113,8 +113,9 @@ fn refutes_below(
     Ok(check_refutation(&cnf, steps, &mut marks))
 }
 
-/// Whether an output can hold the steps, and they show that `weight` is a lower bound: no configuration that has these periods
-/// and no shear, and lives in the rule's subshift, weighs less. If `weight` is 0, there must be no steps.
+/// Whether an output can hold the steps, and they show that `weight` is a lower bound: no configuration that has allowed
+/// symbols, these periods and no shear, and lives in the rule's subshift, weighs less. If `weight` is 0, there must be no
+/// steps.
 fn bounds(
     alloc: Global,
     rule: &Rule,

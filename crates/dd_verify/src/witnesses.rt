@@ -68,8 +68,8 @@ pub(crate) fn narrowed(
     Ok(Some(list))
 }
 
-/// The configuration with these periods, this shear and these symbols; `None` if the numbers give no configuration that fits the
-/// premise, or if a period is greater than `most`.
+/// The configuration with these periods, this shear and these symbols; `None` if the numbers give no configuration that fits
+/// the premise, or if a period is greater than `most`.
 fn given(
     alloc: Global,
     premise: &Rule,

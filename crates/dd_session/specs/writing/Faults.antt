@@ -7,5 +7,5 @@ use Rattle.dd_session.specs.declared.stream.RunFault.{RunFault, TheVariants.Writ
 pub record HasSinkCause {T : Type 0} (before after : ℕ) (result : Result T RunFault) : Type 0 where
   -- The count never falls.
   pub later : before ≤ after
-  -- The call ends with `WriteFault` only if the count rose.
+  -- The call ends with `WriteFault` only if the count rose, in the sense of `Rose`.
   pub write_fault : IsErrOf result WriteFault → Rose before after

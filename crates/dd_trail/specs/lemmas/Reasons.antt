@@ -85,7 +85,7 @@ module _ (known : List (Option (List Literal))) where
   pub extends_longer : (older t : EntryList) → Extends known older t → length older.entries ≤ length t.entries
   extends_longer older t x = omega (arith, length-take (length older.entries) t.entries, ap length x.kept)
 
-  -- a trail extends an earlier one if all but its last entry do, and the last one is right
+  -- a trail extends an older one if it does so without its last entry, and its last entry is right
   pub extends_push : (older t : EntryList) (e : Entry) → Extends known older t → EntryOk t.variables known t.entries e → Extends known older (record { variables = t.variables; entries = t.entries ++ e ∷ [] })
   extends_push older t e x o =
       let m : length older.entries ≤ length t.entries = extends_longer older t x in
