@@ -53,7 +53,7 @@ IsInNoConfiguration x g = (look : Look) → IsConfiguration x look → Obeys x l
 abbrev pub IsInNoTile : LocalRule → GoalOf → Type 0
 IsInNoTile x g = (t : Tile) → IsTile t → Fits x t → HasAllowed x t → Lives x t → (v : Place) → is_flat x.dimension v ≡ true → HasGoal g (tile_look t) v → ⊥
 
--- what a box that suffices shows: the goal holds nowhere
+-- what a box shows if it contains what the goal reads, and suffices: the goal holds nowhere
 pub record HoldsNowhere (x : LocalRule) (g : GoalOf) (n : ℕ) : Type 0 where
   pub never : Never x g n
   pub configurations : IsInNoConfiguration x g

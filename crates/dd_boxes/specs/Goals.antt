@@ -33,7 +33,8 @@ pub record AreOver (x : LocalRule) (s : CommonNumbers) (f g : Automaton) : Type 
   pub left : IsAutomaton s f
   pub right : IsAutomaton s g
 
--- a goal for questions whose premise is the rule x: its rule or its automata have the dimension, the nodes and the alphabet of x
+-- A goal for questions whose premise is the rule x. Its rule or its automata have the dimension, the nodes and the alphabet of x, and its automata
+-- are well formed.
 abbrev pub IsGoalFor : LocalRule → GoalOf → Type 0
 IsGoalFor x (breaks y) = AreAlike x y
 IsGoalFor x (differ s f g) = AreOver x s f g

@@ -1,4 +1,4 @@
--- Literals, clauses, lists of clauses, and what it is to satisfy them.
+-- Literals, clauses, lists of clauses, and what it means to satisfy a list of clauses.
 use Rattle.std.specs.Prelude.{◌≡◌, ℕ, ◌≤◌, Bool, true, not, if◌then◌else◌, List, All}
 use Rattle.std.specs.List.{list_any}
 use Rattle.dd_clause.specs.declared.clause.Literal.{Literal}
@@ -28,7 +28,7 @@ is_clause_true set clause = list_any (is_true_under set) clause
 abbrev pub Satisfies : (ℕ → Bool) → List (List Literal) → Type 0
 Satisfies set clauses = All (λ clause. is_clause_true set clause ≡ true) clauses
 
--- a number of variables, and clauses over them
+-- how many variables there are, and a list of clauses
 pub record ClauseList : Type 0 where
   pub variables : ℕ
   pub clauses : List (List Literal)

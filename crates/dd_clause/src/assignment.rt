@@ -1,4 +1,4 @@
-//! Assignments of truth values, and the check that one satisfies a clause list.
+//! Assignments of truth values, and the check whether an assignment satisfies a clause list.
 ghost use Rattle.std.specs.Prelude.{◌≡◌, ◌↔◌, length, IsTrue};
 ghost use Rattle.dd_clause.specs.Clauses.{IsClauseInRange, is_clause_true, Satisfies};
 ghost use Rattle.dd_values.specs.Variables.{true_variables};
@@ -22,14 +22,14 @@ impl Model for Assignment {
 }
 
 impl Assignment {
-    /// The assignment with these values, starting with the variable 1.
+    /// The assignment with these values, the first of them for the variable 1.
     pub fn new(values: Vec<bool>) -> Assignment
         ensures { result ≡ values.items }
     {
         Assignment { values }
     }
 
-    /// The values, starting with the variable 1.
+    /// The values, the first of them for the variable 1.
     pub fn values(&self) -> &[bool]
         ensures { result.now ≡ self.now }
     {
@@ -51,7 +51,8 @@ fn has_true_literal(literals: &[Literal], values: &[bool]) -> bool
     false
 }
 
-/// Whether the assignment has one value for each of the list's variables, and makes each clause true. Allocates nothing.
+/// Whether the assignment has one value for each variable of the clause list, and makes each clause of the list true. Allocates
+/// nothing.
 pub fn satisfies(cnf: &Cnf, assignment: &Assignment) -> bool
     ensures { IsTrue result ↔
         (length assignment.now ≡ cnf.now.variables

@@ -43,8 +43,8 @@ impl Model for Clause {
 }
 
 impl Clause {
-    /// Makes a clause of these literals. This fails only if memory runs out, and never for at most four literals, which need no
-    /// allocation.
+    /// Makes a clause of these literals. This fails only if memory runs out. Four literals or fewer need no allocation, so it
+    /// never fails for them.
     pub fn from_literals(alloc: Global, literals: &[Literal]) -> Result<Clause, AllocError>
         ensures ok { IfOk result (λ clause. clause ≡ literals.now) }
         ensures short_is_made { length literals.now ≤ 4 → IsOk result }

@@ -1,5 +1,4 @@
-//! The table of queries, with a row for each kind. The rows alone say how queries are read and checked, and what their words
-//! name.
+//! The table of queries, with a row for each kind. The rows alone say how queries are read, and what their words name.
 ghost use Rattle.std.specs.Prelude.{◌≡◌};
 ghost use Rattle.dd_commands.specs.Table.{row};
 

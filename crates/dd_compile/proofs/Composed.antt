@@ -57,8 +57,8 @@ comes_after at cs i cell there cells up below is placed are =
     (All-weaker (λ d. cell_cmp d cell ≡ Less) (λ d. cell_cmp (shifted at.position d) there ≡ Less)
     (λ d h. ap (cell_cmp (shifted at.position d)) placed ∙ (shifted_cmp at d cell ∙ h)) (take i cs) (before cs i cell up below is)))
 
--- If the cells that a composition reads have their signals, so have those that its inner automaton reads at each cell of cs, the cells that the outer
--- automaton reads. They are the same cells.
+-- cs lists the cells that the outer automaton of a composition reads. The composition reads exactly the cells that the inner automaton reads at the
+-- cells of cs. So if the cells that the composition reads have their signals, so have those that the inner automaton reads at each cell of cs.
 pub inner_wired : (n k : ℕ) (w : Wiring) (f g : Automaton) (at : Cell) (cs : List Cell) → cs ≡ cells_of f at.node → are_wired_there n k w ((counted (v.Composed f g)).reads at.node) at ≡ true → AreWired n k w g cs at
 inner_wired n k w f g at cs is h =
     let q : Cell → Bool = λ e. are_signals n k (signals_of w (shifted at.position e)) in
@@ -133,8 +133,8 @@ inner_tells set w f g at look read d there e t y among wire =
     (Contains-map (shifted d.position) ((counted g).reads d.node) e among) in
     read (shifted d.position e) t y member (ap (λ c. wire_of w c t) same ∙ wire) ∙ ap (λ c. is_symbol t (look c)) same
 
--- Once the gates of the inner values are there, the cells that the outer automaton reads have their signals. Signals that say what the outer value
--- over these values is then say what the composition's value is.
+-- Once the gates of the inner values are there, the cells that the outer automaton reads have their signals. If signals say what the outer
+-- automaton's value over the inner values is, they say what the composition's value is.
 module _ (k : ℕ) (f g : Automaton) (w : Wiring) (at : Cell) (start one : Network) (values : Wiring) (cs : List Cell) (is : cs ≡ cells_of f at.node) (are : AreValues one w k g cs at values) where
   found : (d : Cell) → Contains (cells_of f at.node) d → Found one w k g (shifted at.position d) (signals_of values (shifted at.position d))
   found d there =

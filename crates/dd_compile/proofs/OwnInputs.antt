@@ -99,7 +99,7 @@ own_read m n (c ∷ cs) row before long full (suc i) s d below h =
     let rest = own_read m (n + m) cs row (before ++ row c) (omega (arith, l, long, wide)) (λ j e inside. full (suc j) e (omega (arith, inside))) i s d (omega arith) h in
     (rest.0, rest.1, ap (λ xs. slice_get xs rest.0) (sym (append_assoc before (row c) (flat_map row cs))) ∙ rest.2)
 
--- the length of the list of all rows
+-- the length of the list into which all rows are joined
 pub row_count : (m : ℕ) (cs : List Cell) (row : Cell → List Signal) → ((i : ℕ) (d : Cell) → i < length cs → length (row (get_or cs i d)) ≡ m) → length (flat_map row cs) ≡ length cs * m
 row_count m [] row full = omega arith
 row_count m (c ∷ cs) row full =

@@ -81,6 +81,6 @@ composed_made_says f g placed first second s ok w at n node near wired =
     (subst (λ i. SaysValue (record { inputs = i; gates = new.gates }) w k (v.Composed f g) at mo.signals) kept value)
     (subst (λ i. All (IsSignal (i + length new.gates)) mo.signals) kept (in_range_after one mo out.in_range)) gates signals)
 
--- the law near the origin gives the law for all cells at least 2048 from the border of the range, since automata are at most 64 deep
+-- the law `SaysNear` gives the law for all cells at least 2048 from the border of the range, since automata are at most 64 deep
 pub says_from_near : (f : Automaton) → SaysNear f → SaysItsValue f
 says_from_near f says s ok w at n node near wired = let deep = shallow s f ok in says s ok w at n node (omega (arith, near, deep)) wired

@@ -3,9 +3,9 @@
 //! has one, which is true or false. A circuit has at most 2^24 variables. A signal is such a variable, or its opposite (its
 //! negation).
 //!
-//! In this crate, inputs are signals that say which symbol each cell has. The gates of an expansion are made over them. They
-//! need not be inputs of the circuit; they may be signals of earlier gates. The signal that says that a cell has a certain
-//! symbol is called the wire of the cell and the symbol. A cell has its signals if it has a wire for each symbol of the
+//! In this crate, inputs are signals that say which symbol each cell has. The gates of an expansion are made over them. These
+//! signals need not be inputs of the circuit; they may be signals of earlier gates. The signal that says that a cell has a
+//! certain symbol is called the wire of the cell and the symbol. A cell has its signals if it has a wire for each symbol of the
 //! alphabet. This is the direct encoding of finite domains (Walsh 2000). A rule or an automaton reads a cell if it looks up the
 //! cell's symbol. Each cell that is read must have its signals before the gates of the rule or of the automaton's value are
 //! added.

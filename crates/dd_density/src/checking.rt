@@ -8,9 +8,9 @@ use crate::strips::{graph_of, no_weights};
 use dd_formula::Rule;
 use std::alloc::{AllocError, Global};
 
-/// Whether `numerator / denominator` is in lowest terms, and a closed walk and potentials certify that it is the least density
-/// of the strip with the periods `strip` along y and z. The walk is a list of states of the transfer graph. A certificate has
-/// one potential for each state of the graph. The symbol `s` has the weight `weights[s]`.
+/// Whether `numerator / denominator` is in lowest terms, and `walk` and `potentials` certify that it is the least density of
+/// the strip with the periods `strip` along y and z. The walk is a list of states of the transfer graph. A certificate has a
+/// closed walk, and one potential for each state of the graph. The symbol `s` has the weight `weights[s]`.
 ///
 /// # Errors
 /// `AllocError` if memory ran out.
@@ -34,8 +34,8 @@ pub fn check_density(
     Ok(is_shown(&graph, volume, numerator, denominator, walk, potentials))
 }
 
-/// Whether there is a rank for each state of the transfer graph, and the rank falls along each edge. If so, no configuration
-/// lives on the strip with the periods `strip` along y and z.
+/// Whether `ranks` holds one rank for each state of the transfer graph, and the rank falls along each edge. If so, no
+/// configuration lives on the strip with the periods `strip` along y and z.
 ///
 /// # Errors
 /// `AllocError` if memory ran out.

@@ -27,7 +27,7 @@ pub enum Finding {
 /// The mark of a variable: in the step with the number `step`, the variable's literal with the sign `positive` is false.
 #[derive(Clone, Copy)]
 pub struct VariableMark {
-    /// The number of the step that made the mark.
+    /// The number of the step that made the mark, or 0 if none did.
     pub step: u64,
     /// The sign of the false literal.
     pub positive: bool,
@@ -96,7 +96,7 @@ impl<'a> FalseLiterals for After<'a> {
 
     /// A variable out of range has no mark. Such a variable occurs only in the clauses of wrong steps, and `check_step` allows
     /// earlier steps to be wrong. The step's own clause does not contain it, so it has no value until a hinted clause contains
-    /// it. That clause then forced the literal of this variable that it contains. The negation of this literal is false.
+    /// it. The first such clause forced the literal of this variable that it contains. The negation of this literal is false.
     fn is_false(&self, literal: Literal) -> bool {
         let variable = literal.variable as usize;
         if variable >= 1 && variable <= self.marks.len() {

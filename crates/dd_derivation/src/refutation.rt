@@ -150,8 +150,8 @@ fn check_with(cnf: &Cnf, steps: &[Step], alive: &mut [bool], marks: &mut [Variab
 
 /// Whether the steps refute the clauses: there is at least one step, each step is right, and the last step's clause is empty.
 /// Then no assignment satisfies the clauses. `marks` must have the sizes that `Marks::new` gives it for `cnf` and `steps`. The
-/// check allocates nothing. Its time is linear in the sizes of the clause list and of the steps, and in the total length of the
-/// hinted clauses, where each clause counts as often as it is used as a hint.
+/// check allocates nothing. Its time is linear in the number of variables, in the sizes of the clause list and of the steps,
+/// and in the total length of the hinted clauses, where each clause counts as often as it is used as a hint.
 pub fn check_refutation(cnf: &Cnf, steps: &[Step], marks: &mut Marks) -> bool
     requires variables { marks.old.variables ≡ cnf.now.variables }
     requires numbers { marks.old.numbers ≡ length cnf.now.clauses + length steps.now }

@@ -78,7 +78,7 @@ over_plus c n m a b p q =
     over_lowest c (n +ℤ m) (a.num *ℤ pos (den_of b) +ℤ b.num *ℤ pos (den_of a)) (den_of a * den_of b) (product_above (den_of a) (den_of b) (den_above a) (den_above b))
     (added a.num b.num n m c (den_of a) (den_of b) p.cross q.cross)
 
--- ---- products by a whole number
+-- ---- products with a whole number
 pub over_times : (c : ℕ) (n k : ℤ) (a : Exact) → IsOver c n a → IsOver c (n *ℤ k) (times a (whole_of k))
 unfolding times
 over_times c n k a p =

@@ -22,7 +22,7 @@ use std::alloc::Global;
 ///
 /// There is one weight for each symbol, at most 1,000. There are 1 to 16 vectors, all different. Their coordinates are at most
 /// 4 in absolute value, and 0 along the axes past the rule's dimension. The radius is that of the boxes whose symbols are the
-/// patterns. The margin is that of the program's ground (see `dd_rows`).
+/// patterns. The margin is that of the program's ground (see `dd_rows`). The radius and the margin are at most 3.
 ///
 /// # Errors
 /// - `Large` if the program exceeds a limit on its size (see `program_of`).

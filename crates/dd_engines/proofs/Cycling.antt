@@ -169,7 +169,7 @@ as_before cnf j k period less multiple is back (suc d) =
     let next : suc (d + k) ≡ suc d + k = omega arith in
     subst (λ (m : ℕ). IsAsBefore cnf j k period m) next (next_as cnf j k period (d + k) less multiple is back (as_before cnf j k period less multiple is back d))
 
--- Let the walk have the same values after j flips as after k flips, and let k - j be a positive multiple of a period of the flips from j on. If no
+-- Let the walk have the same values after j flips as after k flips, and let k - j be a positive multiple of a period of the flips j to k - 1. If no
 -- values after fewer than k flips satisfy the clauses, no values do: all later values have occurred before.
 none_after : (cnf : ClauseList) (j k period : ℕ) → j < k → (k - j) % period ≡ 0 → IsPeriod cnf j k period → values_after cnf j ≡ values_after cnf k → NoneBefore cnf k → (n : ℕ) → NoneBefore cnf n
 none_after cnf j k period less multiple is back none n m values lt reached satisfying = elim (cases_lt m k) [

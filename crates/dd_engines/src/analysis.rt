@@ -29,7 +29,8 @@ fn mark(marked: &mut [bool], literals: &[Literal])
 }
 
 /// Goes over the entries, from the last to the first, and marks the variables whose values the conflict needs. `conflict` is
-/// the conflict's number, counted from 0. Returns the hints: the numbers of the needed clauses, counted from 1, as in a step.
+/// the conflict's number, counted from 0. Returns the hints: the numbers of the needed clauses and then that of the conflict,
+/// all counted from 1, as in a step.
 fn walk_back(
     alloc: Global,
     clauses: &[Clause],

@@ -4,7 +4,7 @@
 //!
 //! Each clause has a count of its literals that are not false. When a literal becomes false, the counts of the clauses that
 //! contain it fall by one, and each clause whose count falls to one is looked at next. So a second pass finds nothing new, and
-//! the whole takes linear time.
+//! propagation takes linear time.
 //!
 //! Before this, a few passes without counts are made, in both directions. They usually find all that follows, and counts cost
 //! much more. In a clause list that is made from gates, the clauses of a gate come before the clauses that use the gate. So a
@@ -230,7 +230,7 @@ fn pass_back(trail: &mut Trail, clauses: &[Clause]) -> Result<Option<usize>, All
 }
 
 /// Makes a pass back. Then makes, at most `FEW` times, a pass back and a pass forward. All these passes are without counts.
-/// Stops at a conflict, or when a pass forward changes nothing.
+/// Stops at a conflict, or when a pass forward changes nothing. Returns how far the last pass got.
 fn few_passes(alloc: Global, trail: &mut Trail, clauses: &[Clause]) -> Result<Progress, AllocError>
     requires in_range { All (IsClauseInRange (length trail.old.values.items)) clauses.now }
     requires follows { Follows clauses.now trail.old.entries.items trail.old.values.items }

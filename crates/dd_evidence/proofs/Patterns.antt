@@ -19,7 +19,7 @@ never_large r a few below large =
 abbrev pub pattern_of : ℕ → Filled → Listed
 pattern_of a f = listed a f.symbols
 
--- once all fillings of the node are appended, the list ends with the node's entries
+-- once all breaking fillings at the node are appended, the list ends with the node's entries
 pub node_done : (x : LocalRule) (a : ℕ) (found all : List Filled) (start new : List Listed) → AreBreakingFillings x a found → all ≡ found →
     new ≡ start ++ map (pattern_of a) all → IsListedAfter (BreakingFillings x) listed a (λ before. before ≡ start) new
 node_done x a found all start new are same is = record {

@@ -20,8 +20,8 @@ pub fn written_back()
     ensures { (x : LocalRule) (t : Tile) → IsTile t → Fits x t → IsWrittenBack x t }
 {}
 
-/// Does nothing. Its contract says that an output can hold the place of the first cell of a configuration's fundamental box,
-/// the box that repeats, at which a rule is false.
+/// Does nothing. Its contract says that an output can hold the place of the first cell of a configuration's fundamental box
+/// (the box that repeats) at which a rule is false.
 pub fn places_fit()
     ensures { (x : LocalRule) (t : Tile) (place : List ℤ) → IsRule x → IsPeriodic t → Fits x t → IsOutside x t place → IsWritable (answer.Outside place) }
 {}

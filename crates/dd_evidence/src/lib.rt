@@ -3,11 +3,12 @@
 //! cell that the rule reads at a node a symbol of the alphabet. It breaks the rule, or is breaking, if the cells' nodes allow
 //! these symbols and the rule is false under them.
 //!
-//! A pattern gives allowed symbols to some or all of the cells that the rule reads at a node, and leaves out the others. It is
-//! forbidden if the rule is false at the node, whatever allowed symbols the other cells have. A forbidden pattern is minimal if
-//! it is no longer forbidden once one more cell is left out. The patterns of the minimal list are minimal, and together they
-//! forbid exactly what the rule forbids at the node. The list need not have all minimal patterns. An answer lists, node by
-//! node, either the breaking fillings, which are the forbidden patterns that leave out no cell, or the minimal list.
+//! A pattern gives allowed symbols to all, some or none of the cells that the rule reads at a node, and leaves out the others.
+//! It is forbidden if the rule is false at the node, whatever allowed symbols the other cells have. A forbidden pattern is
+//! minimal if it is no longer forbidden once any further cell is left out. The patterns of the minimal list are minimal, and
+//! together they forbid exactly what the rule forbids at the node. The list need not have all minimal patterns. An answer
+//! lists, node by node, either the breaking fillings, which are the forbidden patterns that leave out no cell, or the minimal
+//! list.
 #![tactic(auto)]
 
 mod laws;

@@ -1,4 +1,4 @@
-//! The list of all the patterns that a rule forbids.
+//! The list of all fillings that break a rule, node by node. Answers list them as the patterns that the rule forbids.
 ghost use Rattle.std.specs.Prelude.{◌≡◌, ◌<◌, IfOk, OnOk};
 ghost use Rattle.dd_question.specs.Lists.{HasFewPatterns};
 ghost use Rattle.dd_forbidden.specs.Breaking.{AreBreakingFillings, BreakingFillings};

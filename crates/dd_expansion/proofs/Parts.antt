@@ -49,7 +49,7 @@ map_more f xs i d within = ap (map f) (take_more xs i d within) ∙ map-append f
 longer : (env inner : List Cell) (c : Cell) → inner ≡ env ++ c ∷ [] → length env + 1 ≡ length inner
 longer env inner c is = sym (ap length is ∙ length-append env (c ∷ []))
 
--- the environment of a quantifier's body: the environment was copied, the new cell was pushed, and the result was borrowed
+-- the environment of a quantifier's body: the outer environment was copied, the new cell was pushed, and the result was borrowed
 pub inner_is : (env before after now : List Cell) (c : Cell) → before ≡ env → after ≡ before ++ c ∷ [] → now ≡ after → now ≡ env ++ c ∷ []
 inner_is env before after now c same pushed borrowed = borrowed ∙ (pushed ∙ ap (λ l. l ++ c ∷ []) same)
 

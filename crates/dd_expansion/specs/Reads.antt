@@ -32,6 +32,6 @@ reads_step es (Formula-F.Iff f g) env = f env ++ g env
 reads_step es (Formula-F.ForAll bs f) env = flat_map (λ c. f (env ++ c ∷ [])) (balls_of es env bs)
 reads_step es (Formula-F.Exists bs f) env = flat_map (λ c. f (env ++ c ∷ [])) (balls_of es env bs)
 
--- the cells of the terms in atoms that ask for symbols, with repeats
+-- the cells of the terms in atoms that ask for symbols, with repeats. An atom reads no cell if one of its cells is missing
 abbrev pub reads : List Edge → Formula → Reading
 reads es = fold-Formula Reading (reads_step es)

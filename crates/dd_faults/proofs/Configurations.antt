@@ -15,6 +15,6 @@ first : (bytes : List ℕ) (es : List Entry) (nodes n : ℕ) → n < 4294967295 
 first bytes [] nodes n lt some is = omega arith
 first bytes (e ∷ es) nodes n lt some is = grind (arith, common_steps, mul_assoc, le-mul_of_pos_right)
 
--- if the periods, the shear and the number of symbols fit, and this number is at least 1 and not cut off, then the first period is not cut off
+-- if the periods, the shear and the number of symbols fit, and this number is at least 1 and below 4294967295, then the first period is not cut off
 pub first_of_box : (x : Context) (v : Vector) (shear : Option Vector) (count : ℕ) → count < 4294967295 → 1 ≤ count → box_fits x v shear count ≡ true → period_at x.text v 0 < 4294967295
 first_of_box x v shear count few some fits = first x.text v.entries (length x.known.setting.nodes) count few some (eqb-true _ _ (and_parts _ _ fits).1)

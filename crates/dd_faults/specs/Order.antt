@@ -55,7 +55,7 @@ when holds f = if holds then f ∷ [] else []
 abbrev pub over : Bool → Limit → List Fault
 over passed l = when passed (Fault.Size l)
 
--- the refusal is right: it is for the fault that was found, or memory ran out
+-- the refusal is right: it is for the fault that was found, or it says that memory ran out
 abbrev pub Refuses : Refusal → Option Fault → Type 0
 Refuses Refusal.Memory found = Unit {0}
 Refuses (Refusal.At f) found = found ≡ Some f

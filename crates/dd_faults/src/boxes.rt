@@ -121,8 +121,8 @@ fn box_fits(context: &Context, periods: &Vector, shear: &Option<Vector>, count: 
     cells_of(context, periods) as usize == count
 }
 
-/// Notes the faults of the symbols, periods and shear of a configuration. If there are more symbols than any script can have, the
-/// call fails as if memory ran out.
+/// Notes the faults of the symbols, periods and shear of a configuration. If there are more symbols than any script can have,
+/// the call fails as if memory ran out.
 pub(crate) fn configuration(
     context: &Context,
     periods: &Vector,

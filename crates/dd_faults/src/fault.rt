@@ -50,11 +50,12 @@ pub enum Limit {
     Periods,
     /// A discharge has at most `MOST_VECTORS` vectors, with entries of at most `FARTHEST` in absolute value.
     Vectors,
-    /// If a query asks which patterns a rule forbids, then at each node the cells that the rule reads have at most
+    /// If a query asks for a rule's forbidden or minimal patterns, then at each node the cells that the rule reads have at most
     /// `MOST_PATTERNS` fillings.
     Patterns,
-    /// The transfer graph of a strip has at most `MOST_STATES` states and at most `MOST_WINDOWS` windows. A slice consists of
-    /// the strip's cells with one value of x. A state is a filling of successive slices, and a window fills one slice more.
+    /// A rule's transfer graph over a strip has at most `MOST_STATES` states, and there are at most `MOST_WINDOWS` windows. A
+    /// slice consists of the strip's cells with one value of x. A state is a filling of successive slices, and a window fills
+    /// one slice more.
     States,
     /// A box question asks whether a goal occurs in no configuration that obeys a rule. It takes at most `MOST_CLAUSES` clauses
     /// on its largest box or torus. A query for the least weight on a torus takes at most `MOST_CLAUSES` clauses too.
@@ -89,7 +90,7 @@ pub enum Refusal {
     /// The fault for which the command is refused.
     #[error("a command has a fault")]
     At(Fault),
-    /// Memory ran out.
+    /// Memory ran out, or a list is longer than any script can have.
     #[error("out of memory")]
     Memory,
 }

@@ -4,13 +4,14 @@
 //! command with faults is refused for one of them: the first in the list among those of the lowest rank. To find it, the faults
 //! are noted in the order of the list. A fault that is noted takes the place of the one kept so far only if its rank is lower.
 //!
-//! The context of a command is the text of the script with what the commands before it have defined. A scope is the list of the
-//! variables that enclosing quantifiers bind, the outermost first. A periodic configuration is given by its periods, perhaps a
-//! shear, and the symbols of its fundamental box, the box that repeats. The shear says how far each repetition along the second
-//! axis is moved along the first.
+//! The context of a command consists of the text of the script, the command's number, and what the commands before it have
+//! defined. It also says whether the script has a `topology` command. A scope is the list of the variables that enclosing
+//! quantifiers bind, the outermost first. A periodic configuration is given by its periods, perhaps a shear, and the symbols of
+//! its fundamental box, the box that repeats. The shear says how far each repetition along the second axis is moved along the
+//! first.
 //!
 //! The limits `Instances`, `Reach`, `Depth`, `Patterns`, `States` and `Clauses` depend on what a command means. This crate
-//! doesn't test them, so the list doesn't contain their faults.
+//! doesn't test them, so the list of a command's faults doesn't contain theirs.
 #![tactic(auto, using(crate::proofs::Noting::faults))]
 
 mod atoms;

@@ -16,9 +16,9 @@ use dd_pattern::Filling;
 use dd_values::Items;
 use std::alloc::{AllocError, Global};
 
-/// Appends the breaking fillings that begin with `symbols`, which are allowed. `cells` are all cells that the rule reads at the
-/// node, and `rest` are those that have no symbol yet. `formula` is the rule's expansion at the node, with a number in place of
-/// each cell: the cell's index in `cells`.
+/// Appends the breaking fillings that begin with `symbols`. These symbols are taken to be allowed. `cells` are all cells that
+/// the rule reads at the node, and `rest` are those that have no symbol yet. `formula` is the rule's expansion at the node,
+/// with a number in place of each cell: the cell's index in `cells`.
 pub(crate) fn extend(
     alloc: Global,
     rule: &Rule,

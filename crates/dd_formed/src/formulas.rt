@@ -1,6 +1,6 @@
-//! Whether the variables, labels, nodes and symbols in a formula exist, and whether its terms and balls are within their limits.
-//! The module `depth` tests how deep the formula is. Here `scope` is the number of variables in scope. These are numbered from 0,
-//! and number 0 is the free variable.
+//! Whether the variables, labels, nodes and symbols in a formula exist, and whether its terms and balls are within their
+//! limits. The module `depth` tests how deep the formula is. Here `scope` is the number of variables in scope. These are
+//! numbered from 0, and number 0 is the free variable.
 ghost use Rattle.std.specs.Prelude.{◌≡◌, ◌+◌, ◌<◌, ◌^◌, ◌↔◌, ◌&&◌, IsTrue, All, length, nat_lt};
 ghost use Rattle.std.specs.List.{list_all};
 ghost use Rattle.dd_expansion.specs.Limits.{term_fits, ball_fits, balls_fit, formula_fits, depth, IsFormula};
@@ -137,7 +137,7 @@ impl Signature<'_> {
 /// - It is at most 64 deep. A negation, an implication, an equivalence, a quantifier, or a conjunction or disjunction of two or
 ///   more parts is one deeper than its deepest part.
 ///
-/// `Rule::new` itself tests the limits on instances and reach. Allocates nothing.
+/// The call allocates nothing. `Rule::new` itself tests the limits on instances and reach.
 pub fn is_formula(topology: &Topology, labels: u32, symbols: u32, formula: &Formula) -> bool
     requires { length topology.now.labels ≡ labels }
     ensures { IsTrue result ↔ IsFormula topology.now symbols formula.now }

@@ -1,8 +1,11 @@
 //! Whether a formula may become a rule, and whether an automaton is well formed. Each variable, label, node and symbol in the
-//! formula or the automaton must exist, and the limits must be kept. A label is the name of a move from one cell to another.
-//! The number of instances of a formula is the number of its parts once its quantifiers are written out over cells. Its reach
-//! is the greatest distance along an axis of a cell that it reads. An automaton is given by a list of cases, each of them a
-//! rule with a symbol, or it is the composition of two automata.
+//! formula must exist. A label is the name of a move from one cell to another. The formula must be within the limits on its
+//! terms, its balls and its depth. `Rule::new` tests the limits on a rule's instances and reach.
+//!
+//! An automaton is given by a list of cases, each of them a rule with a symbol, or it is the composition of two automata. All
+//! its rules must have a given dimension, number of nodes and number of symbols, and each symbol that it gives must exist. It
+//! must be within the limits on instances, on reach (how far away it reads cells) and on how deep its compositions are nested.
+//! `Rule` and `Automaton::instances` say what instances are.
 #![tactic(auto)]
 
 mod automata;

@@ -29,7 +29,8 @@ lives_from_box r t fits ok h v a _ below =
     truth_at_base r t ok v a
     ∙ (ap (λ c. is_true r c (tile_look t)) (sym (cell_at_index t ok v a node)) ∙ h (tile_index t (cell v a)) (index_below t ok (cell v a) node))
 
--- if the rule is false at a cell and true at those with smaller numbers, then the cell is the first in cell order at which it is false
+-- if the rule is false at a cell of the box and true at the cells with smaller numbers, then this cell is the first of the box, in cell order, at
+-- which the rule is false
 pub first_from_box : (r : LocalRule) (t : Tile) → IsTile t → (i : ℕ) → i < length t.symbols → is_true r (cell_in t i) (tile_look t) ≡ false → ((k : ℕ) → k < i → true_in r t k) →
     IsFirstFalse r t (cell_in t i)
 first_from_box r t ok i within here before =

@@ -185,7 +185,8 @@ cells_given f c look cs is =
 pub where_given : (f : Automaton) (c : Cell) (look : Look) (cs : List Cell) → cs ≡ cells_of f c.node → is_read f c look ≡ true → are_given look c.position cs ≡ true
 where_given f c look cs is given = cells_given f c look cs is ∙ given
 
--- what the search for the symbols of the cells finds: a filling if each cell has a symbol, and else none
+-- what the search for the symbols of the cells, moved by w, finds: a filling if each moved cell lies in the range of positions and has a symbol, and
+-- else none
 abbrev pub IsFound : Look → Place → List Cell → Option Filled → Type 0
 IsFound look w cs r = MatchOption r (are_given look w cs ≡ false) (λ f. (are_given look w cs ≡ true) × IsSeen look w cs f)
 

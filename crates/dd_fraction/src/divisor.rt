@@ -1,4 +1,5 @@
-//! The greatest common divisor, by Euclid's algorithm. Once both numbers fit in 64 bits, the rest is done with machine words.
+//! The greatest common divisor, by Euclid's algorithm and then the binary algorithm. Once both numbers fit in 64 bits, the rest
+//! is done with machine words.
 ghost use Rattle.std.specs.Prelude.{◌≡◌, ℕ, ◌%◌, ◌<◌, ◌≤◌, ◌/◌, ◌^◌};
 ghost use Rattle.std.specs.Int.RustNames.{unsigned_abs, int_div};
 ghost use lib.IntN.{pos};

@@ -99,7 +99,7 @@ impl Fraction {
         // Reading a field of `other` lets the proof use the invariant of its type.
         let _ = &other.num;
         // The sum of 0/1 and `other` is `other`. The cross products are 0 and the numerator of `other`, and the product of the
-        // denominators is that of `other`, so no intermediate number is too large.
+        // denominators is the denominator of `other`, so no intermediate number is too large.
         if self.num == 0 && self.den == 1 {
             return Some(*other);
         }
@@ -174,7 +174,7 @@ impl Fraction {
         }
     }
 
-    /// `self - factor * other`, or `None` if one of the numbers does not fit in 16 bits.
+    /// `self - factor * other`, or `None` if a numerator or a denominator does not fit in 16 bits.
     #[inline(always)]
     fn small_less_product(&self, factor: &Fraction, other: &Fraction) -> Option<Fraction>
         ensures { IfSome result (λ d. Some d ≡ checked_less_product self.now factor.now other.now) }

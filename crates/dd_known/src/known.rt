@@ -41,7 +41,7 @@ pub struct Known {
 pub struct Context {
     /// The text of the script.
     pub text: Text,
-    /// Whether the script has a `topology` command anywhere, before this command or after it.
+    /// Whether the script has a `topology` command anywhere, even after this command.
     pub has_topology: bool,
     /// The command's number, from 1.
     pub number: u32,

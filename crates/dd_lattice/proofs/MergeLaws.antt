@@ -99,7 +99,7 @@ members_both l r made x has same p = (
   ],
 )
 
--- the walk takes the next position of both lists, which is the same
+-- both lists have the same next position, and the walk takes it from both
 take_both : (l lr r rr made : List Place) (x : Place) → IsMerged l (x ∷ lr) r (x ∷ rr) made →
     IsMerged (l ++ x ∷ []) lr (r ++ x ∷ []) rr (made ++ x ∷ [])
 take_both l lr r rr made x m =

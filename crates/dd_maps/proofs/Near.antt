@@ -67,7 +67,7 @@ module _ (g : Grid) (s : SymbolSets) where
   one_short : (r : LocalRule) (t a : ℕ) → list_all is_near (reads_at r a) ≡ true → list_all is_near (cases_reads ((r, t) ∷ []) a) ≡ true
   one_short r t a h = list_all-append is_near (reads_at r a) [] ∙ and_from _ _ h refl
 
-  -- if the rule reads only near cells, so does the marked automaton: it reads the cell itself and what the rule reads
+  -- if the rule reads only near cells, so does the marked automaton: it reads at most the cell itself and what the rule reads
   pub marked_short : (y : LocalRule) → y ≡ local_rule g s y.formula → ReadsNear y → is_short g.nodes (counted (marked g s y)) ≡ true
   marked_short y same short =
       ap (is_short g.nodes) (counted_given _)

@@ -1,4 +1,4 @@
--- How many instances the automata have. They are few if their number is within the limit at each node.
+-- How many instances the automata have. The instances are few if their number is within the limit at each node.
 use Rattle.std.proofs.Common.{◌≡◌, ◌≤◌, ℕ, ◌+◌, ◌-◌, Bool, true, false, List, [], ◌∷◌, map, length, refl, ap, sym, ◌∙◌, arith}
 use Rattle.std.proofs.lemmas.{Bool.le-leb, Bool.leb-true, List.FromFn.length-range_with_len}
 use Rattle.std.specs.{Prelude.nat_le, List.range_with_len}

@@ -17,9 +17,8 @@ use dd_formula::{Automaton, Formula, Rule, RuleFault};
 use dd_topology::{Sets, Topology};
 use std::alloc::{AllocError, Global};
 
-/// The automaton that marks with 1 the cells that break the rule. It gives 0 where the rule is true and the cell has a symbol
-/// that its node allows, else 1. It has a single case: it gives 0 where the guarded formula is true. The guarded formula is the
-/// conjunction of:
+/// The automaton that marks with 1 the cells that break the rule or have a symbol that their node doesn't allow. It has a
+/// single case: it gives 0 where the guarded formula is true, and else 1. The guarded formula is the conjunction of:
 /// - the rule's formula; and
 /// - for each node that doesn't allow every symbol, a guard: the cell isn't at this node, or has a symbol that the node
 ///   allows.

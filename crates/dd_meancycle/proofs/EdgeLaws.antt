@@ -149,7 +149,7 @@ walk_light n edges (e ∷ es) all among =
     let rest = walk_light n edges es all among.1 in
     omega (arith, first, rest)
 
--- Let c edges of the weight w in all have the mean m / l, and let n * w be at most c * 2^25. Then m * n is at most l * 2^25, and so at most 2^40, as
+-- Let c edges of total weight w have the mean m / l, and let n * w be at most c * 2^25. Then m * n is at most l * 2^25, and so at most 2^40, as
 -- l is at most 4096.
 numerator_small : (n w m l c : ℕ) → 0 < c → w * l ≡ m * c → n * w ≤ c * 2 ^ 25 → l ≤ n → n ≤ 4096 → m * n ≤ 2 ^ 40
 numerator_small n w m l c some mean light short few =

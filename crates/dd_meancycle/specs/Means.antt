@@ -6,7 +6,8 @@ use Rattle.dd_values.specs.Bounds.{most_number}
 use Rattle.dd_transfer.specs.{Graphs.Transfer, Graphs.next_of, Graphs.weight_at, Certificates.potential_of}
 use Rattle.dd_meancycle.specs.declared.least.Mean.{Mean, TheVariants.Least, TheVariants.NoCycle}
 
--- a walk from u through these states to v: each state has an edge to the next, and the last is v
+-- a walk from u through these states to v: u has an edge to the first, each state has one to the next, and the last is v; if there are no states,
+-- v is u
 abbrev pub IsPath : Transfer → ℕ → List ℕ → ℕ → Type 0
 IsPath g u [] v = u ≡ v
 IsPath g u (s ∷ ss) v = (next_of g u (s % g.slices) ≡ Some s) × IsPath g s ss v

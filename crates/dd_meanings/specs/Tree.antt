@@ -1,4 +1,4 @@
--- The types of syntax trees, of what a script has said before a command, and of faults, in one place. Declares nothing of its own.
+-- The types of syntax trees, of what a script has said before a command, and of faults, in one place. This module declares nothing of its own.
 pub use Rattle.dd_topology.specs.declared.{builtin.Kind.Kind}
 pub use Rattle.dd_written.specs.declared.{lexeme.Word.Word, lexeme.Number.Number, lexeme.Lexeme.Lexeme, tree.Name.Name, tree.Term.Term}
 pub use Rattle.dd_written.specs.declared.{tree.Comparand.Comparand, tree.Relation.Relation, tree.Atom.Atom, tree.Ball.Ball}

@@ -32,7 +32,7 @@ fn variable(text: &Text, scope: &[Word], word: Word) -> u32
     }
 }
 
-/// The number of a label, or 0 if no edge has the label.
+/// The number of a label, or 0 if the topology has no such label.
 fn label(context: &Context, word: Word) -> u32
     ensures { result ≡ label_of context.now word }
 {

@@ -63,7 +63,8 @@ fn cases_of(alloc: Global, context: &Context, cases: &[Case]) -> Made<Items<(Mea
     Ok(made)
 }
 
-/// What a definition of an automaton means: an automaton with these cases, and a default symbol for cells at which no case is true.
+/// What a definition of an automaton means: the automaton with these cases, and with this default symbol for cells at which no
+/// case is true.
 pub(crate) fn automaton(
     alloc: Global,
     context: &Context,

@@ -108,8 +108,8 @@ digits_number m (suc n) at some =
 pub number_of_digits : (m n at : ℕ) → 0 < m → at < m ^ n → number m (digits m (strides_of m n) at) ≡ at
 number_of_digits m n at some below = digits_number m n at some ∙ mod-eq_of_lt below
 
--- the state of the loop over the strides after i of its n turns: `now` has the first i strides, and `stride`, which was m ^ n at the start, has been
--- divided by m in each turn
+-- the state of the loop that lists the strides, after i of its n turns: `now` has the first i strides, and `stride`, which was m ^ n at the start,
+-- has been divided by m in each turn
 pub record AreStrides (m n i : ℕ) (now : List ℕ) (stride : ℕ) : Type 0 where
   pub list : now ++ strides_of m (n - i) ≡ strides_of m n
   pub power : stride ≡ m ^ (n - i)

@@ -4,5 +4,5 @@ pub mod Patterns
 pub mod Minimal
 -- what holds of each pattern of a minimal list
 pub mod Claims
--- definitions for the search: numbers of fillings, tables of outcomes, and walks
+-- definitions for finding the list: numbers of fillings, tables of outcomes, walks, and the states of loops
 pub mod finding

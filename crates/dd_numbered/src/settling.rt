@@ -6,8 +6,9 @@ ghost use Rattle.dd_numbered.specs.settling.Parts.{AreAllSettled, IsAnySettled, 
 use crate::numbered::Numbered;
 
 impl Numbered {
-    /// The truth value that the formula has for every list that begins with these symbols, if Kleene's truth tables settle it, or
-    /// else `None`. The result may be `None` even if the formula has the same truth value for all these lists. Allocates nothing.
+    /// The truth value that the formula has for every list that begins with these symbols, if Kleene's truth tables settle it,
+    /// or else `None`. The result may be `None` even if the formula has the same truth value for all these lists. Allocates
+    /// nothing.
     #[cycle(settled)]
     pub fn settled(&self, symbols: &[u32]) -> Option<bool>
         ensures { IfSome result (IsSettled self.now symbols.now) }
@@ -30,8 +31,8 @@ impl Numbered {
     }
 }
 
-/// Whether a list that begins with these symbols has `symbol` at the index `number`. `None` if the index is past the end of these
-/// symbols.
+/// Whether a list that begins with these symbols has `symbol` at the index `number`. `None` if the index is past the end of
+/// these symbols.
 fn leaf_settled(symbols: &[u32], number: usize, symbol: u32) -> Option<bool>
     ensures { IfSome result (IsLeafSettled symbol number symbols.now) }
 {

@@ -18,7 +18,7 @@ use Rattle.dd_output.proofs.{Loops.Unrolls, Signs.FirstDigit, Signs.first_digit,
 the_end : (end other : ℕ) → IsEnd end other end
 the_end end other = inl refl
 
--- the completed texts of a list from index k on: some items and an end, each of which fits its index
+-- the completed texts of a list from index k on: any number of items and an end, each of which fits its index
 abbrev pub IsList : {A B : Type 0} → (ℕ → A → Type 0) → (ℕ → A → List ℕ) → (ℕ → B → Type 0) → (ℕ → B → List ℕ) → ℕ → List ℕ → Type 0
 IsList {A} {B} F t G u k text = (xs : List A) × (y : B) × AllFrom F G k xs y × (text ≡ entries_text t u k xs y)
 

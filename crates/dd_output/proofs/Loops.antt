@@ -26,7 +26,7 @@ goes_on entry law front bytes x rest total is so_far =
     let long : length (front ++ x ∷ []) ≡ suc (length front) = omega (arith, length-append front (x ∷ [])) in
     rw (long, ← regroup front x (entries_at entry (suc (length front)) rest), ← law.unrolled (length front) bytes x rest is) so_far
 
--- a fault of a reader is also a fault of a reader that begins with it
+-- if a reader fails, a longer reader that begins with it fails in the same way
 pub fails_then : {A B : Type 0} (e : ReadFault) (r : Result A Stop) (f : A → Result B Stop) → Fails e r → Fails e (r >>= f)
 fails_then faults.Memory r f is = tt
 fails_then (faults.Stopped n) (Ok x) f is = elim is [ ]

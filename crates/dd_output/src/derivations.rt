@@ -14,7 +14,8 @@ use dd_derivation::Step;
 use dd_values::Items;
 use std::alloc::Global;
 
-/// Buffers for the lists of a step. Each list is gathered here, and then copied to a list of its own. All steps share the buffers.
+/// Buffers for the lists of a step. Each list is gathered here, and then copied to a list of its own. All steps of a refutation
+/// share the buffers.
 #[derive(Drop)]
 struct Buffers {
     literals: Vec<Literal>,

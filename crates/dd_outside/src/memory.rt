@@ -1,5 +1,5 @@
 //! A source and a sink in memory. The reads of the source, and the writes of the sink, are numbered from 1. A list says which
-//! of these calls fail.
+//! of these calls are to fail.
 ghost use Rattle.std.specs.Prelude.{◌≡◌, ◌+◌, ◌-◌, ◌^◌, ◌<◌, ◌≤◌, ◌↔◌, [], ◌++◌, Some, length, take, drop, min, ◌⊎◌, Contains, IfOk, IsTrue, IsErr};
 
 use crate::faults::Failed;
@@ -53,7 +53,8 @@ impl Plan {
     }
 }
 
-/// A source of bytes in memory. A call reads at most `step` bytes. Calls are numbered from 1, and those listed in `failing` fail.
+/// A source of bytes in memory. A call reads at most `step` bytes. Calls are numbered from 1, and those listed in `failing`
+/// fail.
 #[derive(Drop)]
 pub struct MemorySource {
     bytes: Vec<u8>,
@@ -86,7 +87,7 @@ impl MemorySource {
     }
 }
 
-// Copies the bytes from the index `at` on to the start of `into`: as many as there are and fit, but at most `step`. Moves `at`
+// Copies bytes, from the index `at` on, to the start of `into`: as many as are left and fit, but at most `step`. Moves `at`
 // past the copied bytes, and returns their number.
 pub(crate) fn give(bytes: &[u8], at: &mut usize, step: usize, into: &mut [u8]) -> usize
     requires in_range { at.old ≤ length bytes.now }
@@ -150,7 +151,7 @@ impl MemorySink {
     ghost use Rattle.dd_outside.specs.Memory.{sink_free, sink_step, sink_failing, sink_calls};
 
     /// An empty sink that holds at most `capacity` bytes. `step` is at least 1. `failing` lists the numbers of the calls that
-    /// fail. A write allocates nothing.
+    /// are to fail. A write allocates nothing.
     ///
     /// # Errors
     /// `AllocError` if memory ran out.

@@ -30,7 +30,7 @@ pub trait Sink {
     ghost fits: { (sink : Self) → faults sink ≤ 2 ^ 64 - 1 };
 }
 
-/// Writes a whole piece, in as many writes as it takes. If the piece is empty, it makes no write.
+/// Writes a whole piece, in as many writes as it takes. If the piece is empty, no write is made.
 ///
 /// # Errors
 /// `WriteFault` if a write failed. A prefix of the piece, which may be empty, was written before that.

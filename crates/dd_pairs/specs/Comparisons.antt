@@ -20,7 +20,7 @@ abbrev pub premise : ComparisonOf → LocalRule
 premise (image x f y) = x
 premise (change x f g) = x
 
--- the comparison's rules and automata have the script's topology, nodes and symbols
+-- the comparison has well-formed rules and automata over the script's topology, its symbols, and the symbols that its nodes allow
 abbrev pub IsComparisonOf : Setting → ComparisonOf → Type 0
 IsComparisonOf s (image x f y) = IsRuleOf s x × IsAutomatonOf s f × IsRuleOf s y
 IsComparisonOf s (change x f g) = IsRuleOf s x × IsAutomatonOf s f × IsAutomatonOf s g

@@ -51,7 +51,7 @@ radius_small x g n rule few =
     let positions = positions_below x g (volume (centred x.dimension n)) rule.nodes.0 in
     omega (arith, wide, positions, few)
 
--- the call that makes the box succeeds
+-- `centred_box` returns the box, and not `None`
 pub box_made : (x : LocalRule) (g : GoalOf) (n : ℕ) (o : Option Bounds) → IsRule x → question_clauses x g (volume (centred x.dimension n)) ≤ most_clauses →
     o ≡ (if nat_le n 1048576 then Some (centred x.dimension n) else None) → o ≡ Some (centred x.dimension n)
 box_made x g n o rule few is = is ∙ ap (λ b. if b then Some (centred x.dimension n) else None) (le-leb n 1048576 (radius_small x g n rule few))

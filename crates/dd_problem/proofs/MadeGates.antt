@@ -1,4 +1,4 @@
--- First the circuit grows by the gates that a maker makes, and then the clauses grow by those of these gates.
+-- First the circuit grows by the gates that a maker makes, and then the clauses of these gates are added.
 use Rattle.std.proofs.Common.{◌≡◌, ℕ, ◌+◌, List, [], ◌∷◌, ◌++◌, length, drop, refl, ap, ◌∙◌, arith}
 use Rattle.std.proofs.lemmas.Result.{IfOk-at_ok}
 use Rattle.std.specs.Prelude.{Result, Ok, Err, IfOk}

@@ -147,8 +147,8 @@ fn counted(alloc: Global, count: u32) -> Result<Vec<u32>, AllocError>
     Ok(numbers)
 }
 
-/// The configuration of these periods in which each cell of the fundamental box has its number, from 0 in cell order, in place of
-/// a symbol.
+/// The configuration of these periods in which each cell of the fundamental box has its number, from 0 in cell order, in place
+/// of a symbol.
 fn numbering(alloc: Global, premise: &Rule, periods: &Periods) -> Result<Periodic, AllocError>
     requires { AreTorusPeriods premise.now.dimension premise.now.nodes periods.now }
     ensures { IfOk result (λ t. t ≡ numbered_tile premise.now periods.now) }
@@ -163,8 +163,8 @@ fn numbering(alloc: Global, premise: &Rule, periods: &Periods) -> Result<Periodi
     )
 }
 
-/// Inputs for the cells that the premise reads at the cells of the fundamental box, and for those of the box of the goal's least
-/// radius. Each cell has the inputs of the cell of the fundamental box that it equals modulo the periods.
+/// Inputs for the cells that the premise reads at the cells of the fundamental box, and for those of the box of the goal's
+/// least radius. Each cell has the inputs of the cell of the fundamental box that it equals modulo the periods.
 fn torus_inputs(
     alloc: Global,
     premise: &Rule,

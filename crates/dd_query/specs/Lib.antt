@@ -4,7 +4,7 @@ pub mod Tree
 pub mod Vectors
 -- what the words, numbers and vectors of a query stand for
 pub mod Parts
--- queries from their syntax trees, and the bounds of their numbers and vectors
+-- queries from their syntax trees, and the bounds on their numbers and vectors
 pub mod Queries
 -- lemmas on these definitions, for other crates
 pub mod lemmas

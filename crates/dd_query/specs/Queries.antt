@@ -1,4 +1,4 @@
--- Queries from their syntax trees, and the bounds of their numbers and vectors.
+-- Queries from their syntax trees, and the bounds on their numbers and vectors.
 use Rattle.std.specs.Prelude.{◌<◌, ◌≤◌, length, map}
 use Rattle.dd_values.specs.Bounds.{widest_radius}
 use Rattle.dd_pattern.specs.Periods.{periods_of}

@@ -16,7 +16,8 @@ use dd_values::Items;
 use dd_written::{Name, Text, number_value};
 use std::alloc::{AllocError, Global};
 
-/// The number of the rule, automaton or configuration that the word at the index `place` names; 0 if there is no such word.
+/// The number of the rule, automaton or configuration that the word at the index `place` names; 0 if there is no such word, or
+/// if it names nothing of its role.
 pub(crate) fn word_at(context: &Context, request: &Request, place: usize) -> u32
     ensures { result ≡ word_at context.now request.now place }
 {

@@ -15,8 +15,8 @@ use dd_lattice::Position;
 use dd_values::Items;
 use std::alloc::{AllocError, Global};
 
-/// A query of a script. It refers to rules, automata and configurations by their numbers. Rules, automata and configurations are
-/// numbered separately, each from 0, in the order of their definitions.
+/// A query of a script. It refers to rules, automata and configurations by their numbers. Rules, automata and configurations
+/// are numbered separately, each from 0, in the order of their definitions.
 #[derive(Debug, Drop)]
 pub enum Query {
     /// Whether the configuration is in the rule's subshift.

@@ -1,4 +1,5 @@
--- A count that is cut off at a limit exceeds the limit exactly when the whole count does.
+-- To cut a count off at a limit is to replace it by limit + 1 if it is greater than the limit. The result exceeds the limit exactly when the whole
+-- count does.
 use Rattle.std.proofs.{Common.◌≡◌, Common.ℕ, Common.max, Common.ap, Common.◌∙◌, Common.arith, lemmas.Bool.Decides.nat_tests}
 use Rattle.std.specs.Prelude.{nat_lt}
 use Rattle.dd_values.specs.declared.limits.Limits.{Limits}

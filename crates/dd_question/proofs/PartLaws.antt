@@ -1,5 +1,5 @@
--- If a statement doesn't hold, a test that answers false decides it. The test that no vector occurs twice in a list is passed exactly when the
--- vectors are distinct.
+-- A test that answers false is right about a statement that doesn't hold: it answers true exactly when the statement holds. The test that no vector
+-- occurs twice in a list is passed exactly when the vectors are distinct.
 use Rattle.std.proofs.Common.{◌≡◌, Bool, true, false, List, [], ◌∷◌, refl}
 use Rattle.std.proofs.lemmas.Bool.{and_parts, or_parts, false≢true}
 use Rattle.std.specs.{Prelude.◌↔◌, Prelude.not, List.AllByRecursion, List.IsDistinct, Ordering.is_eq}

@@ -1,4 +1,5 @@
--- The count of clauses for a least weight. If each step of the count is cut off at a limit, the result is the whole count, cut off at this limit.
+-- The count of clauses for a least weight. To cut a number off at a limit is to replace it by limit + 1 if it is greater than the limit. If each step
+-- of the count is cut off at a limit, the result is the whole count, cut off at this limit.
 use Rattle.std.proofs.Common.{◌≡◌, ℕ, ◌+◌, ◌*◌, ap, ◌∙◌, arith}
 use Rattle.dd_formula.specs.{Counts.cut, lemmas.Cuts.cut_times_left, lemmas.Cuts.cut_times_right}
 

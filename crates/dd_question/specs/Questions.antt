@@ -42,9 +42,10 @@ pub data Asked : Type 0 where
   least : LocalRule → List ℕ → List ℕ → Asked
   -- What is the best lower bound that a discharge shows for the density (the weight per position) of every configuration that obeys the rule? Each
   -- position first holds the weight of its symbols. Then, along each of the vectors, it gives an amount to the position at the vector's end. A bound
-  -- is a number such that each position then holds at least this number. To find it, the fillings of a finite region are examined. The first number
-  -- of the question is the radius: the symbols of the box of this radius around a position determine what it gives. The second number is the margin:
-  -- the region is enlarged by this much in every direction.
+  -- is a number such that each position holds at least this number in the end. The first number of the question is the radius: the symbols of the box
+  -- of this radius around a position determine what it gives. To find the best bound, the fillings of a finite region are examined. The region
+  -- consists of the boxes of this radius around a position and around the positions that give to it. Each of these boxes is enlarged by the second
+  -- number, the margin, in every direction.
   discharge : LocalRule → ℕ → ℕ → List Place → List ℕ → Asked
 
 -- the question that a value of the code stands for

@@ -14,10 +14,10 @@ positions_in along = periods_volume (periods_of along 0)
 abbrev pub cells_in : LocalRule → List ℕ → ℕ
 cells_in x along = positions_in along * x.nodes
 
--- An upper bound for the number of clauses that ask for a fundamental box of weight less than M. Here M is the number of its cells times the greatest
--- of the weights ws; no box weighs more than M. The bound counts the clauses of the torus, those of gates that add up the weights, and one that says
--- that the box weighs less than M. For each cell and each number m below M, it counts an And gate of two signals for each symbol, and an Or gate over
--- all these And gates. The Or gate says that the cells up to this one weigh more than m.
+-- An upper bound for the number of clauses that say that a configuration of the torus obeys the rule, and that its fundamental box weighs less than
+-- M. Here M is the number of the box's cells times the greatest of the weights ws; no box weighs more than M. The bound counts the clauses of the
+-- torus, those of gates that add up the weights, and one that says that the sum is less than M. For each cell and each number m below M, it counts an
+-- And gate of two signals for each symbol, and an Or gate over all these And gates. The Or gate says that the cells up to this one weigh more than m.
 abbrev pub weight_clauses : LocalRule → List ℕ → List ℕ → ℕ
 weight_clauses x along ws =
     question_clauses x always (positions_in along) + cells_in x along * (cells_in x along * greatest ws * suc (4 * length ws)) + 1

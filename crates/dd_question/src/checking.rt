@@ -54,7 +54,7 @@ impl<'a> Question<'a> {
         }
     }
 
-    /// The question, checked with these limits of the search for its answer.
+    /// Checks the question, together with the limits of the search for its answer.
     ///
     /// # Errors
     /// `Limits` if these limits are out of range; else the fault of the first part that doesn't fit those before it; else

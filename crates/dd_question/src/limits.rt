@@ -1,4 +1,4 @@
-//! Which limit on its work a question exceeds.
+//! Tests whether a question exceeds a limit on its work.
 ghost use Rattle.std.specs.Prelude.{◌≡◌, ◌≤◌, IfOk, slice_index};
 ghost use Rattle.dd_boxes.specs.Goals.{IsGoalFor};
 ghost use Rattle.dd_boxes.specs.Views.{goal_of};
@@ -23,7 +23,8 @@ use dd_values::Limits;
 use std::alloc::{AllocError, Global};
 
 /// Whether the upper bound for the clauses of this box question is over `MOST_CLAUSES`. The clauses are those of the largest
-/// box or torus that a search may try.
+/// box or torus that a search may try. The largest box has the radius `limits.radius`, unless the goal reads farther. Then it
+/// is the smallest box that holds all cells that the goal reads.
 fn is_long(alloc: Global, limits: &Limits, premise: &Rule, goal: &Goal) -> Result<bool, AllocError>
     requires limits { AreLimits limits.now }
     requires goal { IsGoalFor premise.now (goal_of premise.now goal.now) }
@@ -85,8 +86,8 @@ fn strip_volume(strip: [u32; 2]) -> u32
 }
 
 impl Question<'_> {
-    /// The limit on its work that the question exceeds, if any. The parts of the question must fit together. The work for box
-    /// questions depends on `limits`, the limits of the search, which must be in range.
+    /// Which limit on its work the question exceeds, or `None` if it exceeds none. The parts of the question must fit together.
+    /// The work for box questions depends on `limits`, the limits of the search, which must be in range.
     ///
     /// # Errors
     /// `AllocError` if memory runs out.

@@ -57,8 +57,9 @@ pub enum Question<'a> {
     /// What is the best lower bound that a discharge shows for the density (the weight per position) of every configuration
     /// that obeys the rule? In a discharge, each position first holds the weight of its symbols. Then, along each of the
     /// vectors, it gives an amount to the position at the vector's end. The symbols of the box of radius `radius` around a
-    /// position determine what it gives. A bound is a number such that each position then holds at least this number. To find
-    /// it, the fillings of a finite region are examined. `margin` says by how much this region is enlarged in every direction.
+    /// position determine what it gives. A bound is a number such that each position holds at least this number in the end. To
+    /// find the best bound, the fillings of a finite region are examined. The region consists of the boxes of radius `radius`
+    /// around a position and around the positions that give to it, each enlarged by `margin` in every direction.
     Discharge {
         rule: &'a Rule,
         radius: u32,

@@ -82,8 +82,9 @@ fn greatest(weights: &[u32]) -> u32
     }
 }
 
-/// An upper bound for the number of clauses that ask for a fundamental box of weight less than M. Here M is the number of its
-/// cells times the greatest of the weights. If this bound is over 2,000,000, the result is 2,000,001.
+/// An upper bound for the number of clauses that say that a configuration of the torus obeys the rule, and that its fundamental
+/// box weighs less than M. Here M is the number of the box's cells times the greatest of the weights. If this bound is over
+/// 2,000,000, the result is 2,000,001.
 fn weight_clauses(rule: &Rule, periods: [u32; 3], weights: &[u32]) -> u32
     requires { length weights.now ≡ rule.now.symbols }
     ensures { result ≡ cut most_clauses (weight_clauses rule.now periods weights.now) }

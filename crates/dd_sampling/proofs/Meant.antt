@@ -155,7 +155,8 @@ or_clauses es = fold-roll-Expanded ℕ clause_count_step (Expanded-F.Or es)
 
 ruleset gates = (leaf_clauses, not_clauses, and_clauses, or_clauses)
 
--- ---- for each rule: its expansion, how many parts and clauses the expansion has, and the cells that the rule reads
+-- ---- for each rule: its expansion, how many instances and clauses the expansion has, and the cells that the rule reads
+-- The instances are the expansion itself, its parts, their parts, and so on. The clauses are those of its gates.
 pub record Counts (f : Formula) (e : Expanded) (nodes clauses : ℕ) (cells : List Cell) : Type 0 where
   pub expanded : expansion_at (plain_rule f) 0 ≡ e
   pub nodes_are : instances e ≡ nodes

@@ -42,7 +42,7 @@ known rules configurations =
 
 -- ---- the rules
 
--- the faults of a rule with these counts: the limits that it exceeds
+-- the faults of a rule whose expansion has this many instances, and which reads these cells: the limits that it exceeds
 abbrev few_and_near : ℕ → List Cell → List Fault
 few_and_near nodes cells = over (not (nat_le nodes 20000 && true)) limit.Instances ++ (over (not (list_all is_near cells && true)) limit.Reach ++ [])
 

@@ -1,5 +1,5 @@
--- The commands of a sample are well formed and in an allowed order: the stage of each command may follow that of the command before it. (The stage
--- of a command is the place of its kind in a script.)
+-- The commands of a sample are well formed and in an allowed order: the stage of each command is at least the lowest one that the command before it
+-- allows. (The stage of a command is a number: no command may follow one of a higher stage.)
 use Rattle.std.proofs.Common.{◌≡◌, ℕ, zero, suc, ◌+◌, ◌≤◌, List, [], ◌∷◌, ◌++◌, length, map, true, codes, refl, sym, ap, ◌∙◌, subst, arith, length-append}
 use Rattle.std.proofs.lemmas.List.{length-map}
 use Rattle.std.specs.List.{list_all}

@@ -2,7 +2,7 @@
 //! have the same rules and queries. Each has one configuration, which repeats a box of symbols that is 2 wide. The height of
 //! this box, also called the height of the configuration, is twice the sample's number. A text spells a script if it follows
 //! the grammar and none of its commands has a fault. Exceeding a limit is a fault, too. It is proved here that every sample
-//! spells a script. Tokens are the pieces into which a text is cut. Lexemes are tokens as the grammar sees them.
+//! spells a script. Tokens are the words, numbers and marks of a text. Lexemes are tokens as the grammar sees them.
 #![tactic(auto)]
 
 mod laws;

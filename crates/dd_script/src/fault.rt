@@ -8,10 +8,10 @@ use dd_faults::Limit;
 use std::alloc::AllocError;
 use thiserror::Error;
 
-/// What is wrong with a command.
+/// Why a text is refused.
 #[derive(Debug, Drop, Error)]
 pub enum ScriptKind {
-    /// The command is not well formed.
+    /// The command is not well formed, or some token stands before the first command.
     #[error("not well formed")]
     Syntax,
     /// This name refers to nothing of the kind that must stand there. Or a configuration gives the symbol with this name to a

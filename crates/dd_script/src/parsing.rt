@@ -104,13 +104,13 @@ fn script_of(alloc: Global, text: Text, commands: &[Written]) -> Result<Script, 
 /// The script that the bytes spell, or why they spell none. There may be at most 1,048,576 bytes.
 ///
 /// # Errors
-/// The error gives the number of the first command that is not well formed. If all are well formed, it gives the number of the
-/// first command with a fault, and the first fault of that command. Of a command's faults, unknown names come first, then
-/// repetitions, then wrong dimensions and wrong numbers of items, then exceeded limits, in the order of `Limit`. Faults of the
-/// same kind or the same limit come in the order of the text. If a query asks about pairs of automata, the limits on a pair and
-/// on the question about it are tested before those on the next pair. If the pair is about an image, the depth of the formula
-/// that says that the image obeys the target (see `Limit::Depth`) is tested before the pair's other limits. The error may also
-/// say that memory ran out.
+/// The error gives the number of the first command that is not well formed, or 0 if some token stands before the first command.
+/// If all are well formed, it gives the number of the first command with a fault, and the first fault of that command. Of a
+/// command's faults, unknown names come first, then repetitions, then wrong dimensions and wrong numbers of items, then
+/// exceeded limits, in the order of `Limit`. Faults of the same kind or the same limit come in the order of the text. If a
+/// query asks about pairs of automata, the limits on a pair and on the question about it are tested before those on the next
+/// pair. If the pair is about an image, the depth of the formula that says that the image obeys the target (see `Limit::Depth`)
+/// is tested before the pair's other limits. The error may also say that memory ran out.
 pub fn parse(alloc: Global, bytes: &[u8]) -> Result<Script, ScriptFault>
     requires { length bytes.now ≤ most_script }
     ensures spelled { IfOk result (Spells bytes.now) }

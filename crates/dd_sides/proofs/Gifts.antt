@@ -1,6 +1,6 @@
--- Gifts along vectors. What a position gives depends on its surroundings, and is bounded. Suppose that for each position of a box, what it holds plus
--- what it gives is at most its weight plus what it receives. Then all of them together hold at most the weight of the box, plus the most that may
--- come in from outside.
+-- Gifts along vectors. What a position gives depends on its surroundings, and is bounded. Suppose that for each position of a box, the same number
+-- `held` plus what the position gives is at most its weight plus what it receives. Then `held` times the number of positions is at most the weight of
+-- the box, plus the most that may come in from outside. All weights are multiplied by `common`.
 use Rattle.std.proofs.Common.{◌≡◌, ℕ, ◌+◌, ◌-◌, ◌*◌, ◌≤◌, List, [], ◌∷◌, ap, arith}
 use Rattle.dd_lattice.specs.{Place.Place, Regions.seen_from}
 use Rattle.dd_sides.specs.Sums.{Size, box_sum, size_volume}

@@ -132,7 +132,7 @@ blocks_total m o f (x ∷ xs) a =
 in_numbers : (t : ℤ) (h i o q w : ℕ) → (pos h +ℤ t) ≤ℤ pos (q * w) → t +ℤ pos i ≡ pos o → h + o ≤ q * w + i
 in_numbers t h i o q w le e = omega (arith, ints, le, e)
 
--- if a row holds, what is held plus what goes out is at most the right side plus what comes in
+-- if a row holds, `held` plus what goes out is at most the right side times `common`, plus what comes in
 pub row_says : {X : Type 0} (m held common w o : ℕ) (f : X → ℕ) (xs : List X) (a : List ℕ) →
     total_below (λ j. get_or (pos 1 ∷ flat_map (λ x. block m o (f x)) xs) j (pos 0) *ℤ column_value (pos held) a j) (1 + length xs * m) ≤ℤ pos (common * w) →
     held + goes_out m o xs a ≤ common * w + comes m f xs a

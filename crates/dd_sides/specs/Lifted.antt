@@ -11,8 +11,9 @@ use Rattle.dd_discharge.specs.{declared.bound.Bound.Bound, Amounts.held_over}
 use Rattle.dd_sides.specs.{Sides.IsSideFilling, Sides.side_weight, Boundaries.boundary}
 
 -- How far the ground around a position reaches: the radius of the patterns, plus the margin, plus the greatest absolute value of an entry of a
--- vector. The ground has the boxes of the patterns' radius around the position and around those that give to it, grown by the margin. Each of its
--- admissible fillings gives a row, a linear inequality: what the position holds, plus what it gives, is at most its weight plus what it receives.
+-- vector. What a position gives depends on the pattern around it (the symbols of a box). The ground has the boxes of the patterns' radius around the
+-- position and around those that give to it, grown by the margin. For each of its admissible fillings there is a row, a linear inequality: the bound,
+-- plus what the position gives, is at most the position's weight plus what it receives.
 abbrev pub reach_of : ℕ → ℕ → List Place → ℕ
 reach_of radius margin vs = radius + margin + greatest (map extent vs)
 

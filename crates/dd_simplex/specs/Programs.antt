@@ -1,5 +1,5 @@
 -- Linear programs over exact fractions. A column is a variable of the program. Duals are factors for the rows. They serve to show that values of the
--- columns are best, which means that they make column 0 as great as possible.
+-- columns are best, which means that these values make column 0 as great as possible.
 use Rattle.std.specs.Prelude.{◌≡◌, ℕ, zero, suc, ◌<◌, ◌-◌, List, [], ◌∷◌, length, slice_index_or, replicate, cond}
 use Rattle.std.specs.Bool.{nat_eq}
 use lib.IntN.{ℤ, pos}

@@ -40,7 +40,7 @@ impl Tableau {
     /// Makes one iteration by Bland's rule. Returns true if a pivot was made, and false if no variable may enter.
     ///
     /// # Errors
-    /// `Overflow` if a number is too large. The tableau is then unusable.
+    /// `Overflow` if a number is too large, or if a variable enters but none may leave. The tableau is then unusable.
     pub fn iterate(&mut self) -> Result<bool, SimplexFault>
         requires { IsTable self.old }
         ensures end { IfOk result (λ more. more ≡ false → DoesEnter self.old None × (self.new ≡ self.old)) }

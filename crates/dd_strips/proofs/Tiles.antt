@@ -1,5 +1,5 @@
 -- Configurations with the strip's periods and no shear. In each of their slices all cells have symbols, and the slices repeat after the
--- configuration's period along the first axis. Any run of as many slices as that period weighs as much as the fundamental box.
+-- configuration's period along the first axis. Let n be this period. Any n consecutive slices weigh as much as the fundamental box.
 use Rattle.std.proofs.Common.{◌≡◌, ℕ, zero, suc, ◌+◌, ◌*◌, ◌/◌, ◌%◌, ◌<◌, Bool, List, [], ◌∷◌, length, map, get_or, ℤ, pos, ◌+ℤ◌, Option, None, refl, ap, sym, ◌∙◌, arith}
 use Rattle.std.proofs.{Math.Nat.mod-eq_of_lt, Math.Nat.div-eq_of_lt, lemmas.Int.ints, lemmas.Bool.lt-ltb}
 use Rattle.std.proofs.lemmas.Nat.{mod-mul-add, div-mul-add, div-add-mod', mod_below, div_below}
@@ -87,7 +87,7 @@ module _ (r : LocalRule) (s : Strip) (t : Tile) (for : IsFor r s) (on : IsOnStri
       let below : c.node < t.nodes = omega (arith, node, on.nodes, for.nodes) in
       rw (lt-ltb _ _ below) (known_at (λ d. d < r.symbols) t.symbols (tile_index t c) on.known (index_below c below))
 
-  -- the look of the configuration is the same one period further along the first axis
+  -- one period further along the first axis, the configuration has the same symbols
   look_round : (x : ℤ) (y z : ℤ) (a : ℕ) → tile_look t (cell (place (x +ℤ pos t.periods.x) y z) a) ≡ tile_look t (cell (place x y z) a)
   look_round x y z a =
       let p = t.periods in
@@ -186,7 +186,7 @@ module _ (r : LocalRule) (s : Strip) (t : Tile) (for : IsFor r s) (on : IsOnStri
           let sum : slices_weight s ws (tile_look t) (pos x) (suc n) ≡ total_below (λ k. slices_weight s ws (tile_look t) (pos (x + k)) 1) n + slices_weight s ws (tile_look t) (pos (x + n)) 1 = omega (arith, rest, more) in
           sum
 
-      -- any run of as many slices as the period weighs as much as the fundamental box
+      -- let n be the period along the first axis; from each x >= 0 on, n consecutive slices weigh as much as the fundamental box
       pub period_weighs : (x : ℕ) → slices_weight s ws (tile_look t) (pos x) t.periods.x ≡ tile_weight ws t
       period_weighs x =
           slices_total x t.periods.x

@@ -41,7 +41,7 @@ risen a b c m i l w v p q =
     let both : l * (w + v) ≡ l * w + l * v = omega arith in
     rw (more, both) (omega (arith, ints, p, q))
 
--- a bound for a walk, given that the potentials at its ends lie between `low` and `high`
+-- a bound for a walk, given that the potential at its start is at most `high` and the potential at its end is at least `low`
 bounded : (a c low high : ℤ) (m l : ℕ) → (c +ℤ pos m) ≤ℤ (a +ℤ pos l) → low ≤ℤ c → a ≤ℤ high → m ≤ l + unsigned_abs (high -ℤ low)
 bounded a c low high m l p q s = omega (arith, ints)
 

@@ -19,7 +19,7 @@ pub record IsStripFilling (r : LocalRule) (s : Strip) (x : ℤ) (k : ℕ) (look 
   pub repeats : RepeatsAcross s look
   pub allowed : AreAllowed r look
 
--- an admissible filling: the rule is true at each cell for which the cell itself and all cells that the rule reads there lie in the filling
+-- an admissible filling: the rule is true at each cell that lies in the filling together with all cells that the rule reads there
 pub record IsAdmissibleStrip (r : LocalRule) (s : Strip) (x : ℤ) (k : ℕ) (look : Look) : Type 0 where
   pub filling : IsStripFilling r s x k look
   pub admissible : Admissible r look

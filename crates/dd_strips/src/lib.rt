@@ -5,10 +5,10 @@
 //! next.)
 //!
 //! `dd_transfer` defines the transfer graph, with its states, edges, windows and tested slices. A state consists of consecutive
-//! slices. An edge drops a state's first slice and adds one at its end; its weight is that of the added slice. The certificate
-//! is either a closed walk of this graph with a potential for each state, or a rank for each state. The walk's mean is its
-//! weight divided by its length, and m / l is this mean in lowest terms. Along each edge of weight w, the potential rises by at
-//! most l * w - m. The rank falls along each edge.
+//! slices. An edge drops a state's first slice and adds a slice after the last one. The edge weighs what the added slice
+//! weighs. The certificate is either a closed walk of this graph with a potential for each state, or a rank for each state. The
+//! walk's mean is its weight divided by its length, and m / l is this mean in lowest terms. Along each edge of weight w, the
+//! potential rises by at most l * w - m. The rank falls along each edge.
 #![tactic(auto)]
 
 mod laws;

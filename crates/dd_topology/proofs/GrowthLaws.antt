@@ -130,8 +130,8 @@ finished es c r found frontier cells grown same ascending = record {
   members = λ d. subst (λ l. Contains l d ↔ IsInBall es c r d) (sym same) (grown.members d);
 }
 
--- two lemmas: if the result is `Ok` with the cells found, in cell order, these are exactly the cells of the ball, and equal `in_order` of the list
--- `ball`
+-- two lemmas: if the result is `Ok` with the list of the cells found, in cell order, this list has exactly the cells of the ball, and it is equal to
+-- `in_order` of the list `ball`
 module _ {V E : Type 0} (result : Result V E) (items : V → List Cell) (es : List Edge) (c : Cell) (r : ℕ) (found frontier : List Cell) where
   pub cells_at_last : IsGrown es c r found frontier → IfOk result (λ v. items v ≡ found) → IfOk result (λ v. IsStrictlySortedBy cell_cmp (items v)) → IfOk result (λ v. IsCellListOf (IsInBall es c r) (items v))
   cells_at_last grown same ascending = if_ok_both result _ _ _ (λ v. finished es c r found frontier (items v) grown) same ascending

@@ -44,7 +44,7 @@ module _ {X : Type 0} where
   take_past zero (x ∷ r) ys k h = absurd (cc)
   take_past (suc m) (x ∷ r) ys k h = rw suc-add (ap (λ l. x ∷ l) (take_past m r ys k (omega arith)))
 
-  -- overwriting row a of a flat list sets that row
+  -- overwriting row a of a flat list with `row` replaces that row and leaves all other rows as they were
   pub rows-written : (n m a : ℕ) (xs row : List X) → a < n → length xs ≡ n * m → length row ≡ m →
       in_rows n m (take (a * m) xs ++ (row ++ drop m (drop (a * m) xs))) ≡ set (in_rows n m xs) a row
   rows-written zero m a xs row h long few = absurd (omega arith)

@@ -44,8 +44,8 @@ fewer r look x y m n low high has c inside node = has c (record { from = lower x
 some_there : (r : LocalRule) (look : Look) (x : ℤ) (n : ℕ) (c : Cell) → HasSlices r look x n → IsInSlices x n c → c.node < r.nodes → is_some (look c) ≡ true
 some_there r look x n c has inside node = let g = given r look x n c has inside node in ap is_some g.is
 
--- let y be the x coordinate of the tested slice of the window that begins at x. If the slice at d, relative to the tested slice, lies in the window
--- when this begins at 0, then the slice at d + y lies in the window that begins at x
+-- let y be the x coordinate of the tested slice of the window that begins at x. If the window that begins at 0 has a slice at d, relative to its
+-- tested slice, then the window that begins at x has the slice at d + y
 read_within : (r : LocalRule) (x y d : ℤ) → y ≡ x +ℤ stand r → (pos 0 ≤ℤ (d +ℤ stand r)) × (unsigned_abs (d +ℤ stand r) < state_length r + 1) →
     (x ≤ℤ (d +ℤ y)) × ((d +ℤ y) <ℤ (x +ℤ pos (state_length r + 1)))
 read_within r x y d at spot = within x y d (stand r) (state_length r + 1) at spot.0 spot.1

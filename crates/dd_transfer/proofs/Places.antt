@@ -33,7 +33,7 @@ parts_of s i sized h =
       node = mod_below i s.nodes sized.nodes_some;
     }
 
--- the cell at the place of a cell c is c itself, taken modulo the strip's periods
+-- in the slice at x, the cell that has the place of a cell c has c's node, and c's y and z modulo the strip's periods
 pub cell_at_index : (s : Strip) (x : ℤ) (c : Cell) → IsSized s → c.node < s.nodes →
     cell_at s x (slice_index_of s c) ≡ cell (place x (pos (residue c.position.y s.y)) (pos (residue c.position.z s.z))) c.node
 cell_at_index s x c sized h =
@@ -56,7 +56,6 @@ residue_moved d v n some =
     let one : (d +ℤ v) +ℤ pos (m.times * n) ≡ (d +ℤ pos (residue v n)) +ℤ pos (m.times' * n) = omega (arith, ints, m.is) in
     sym (residue_added (d +ℤ v) n m.times some) ∙ (ap (λ z. residue z n) one ∙ residue_added (d +ℤ pos (residue v n)) n m.times' some)
 
--- the cells of a slice are cells of Z^d
 zero_at : (x : ℕ) → x < 1 → int_eq (pos x) (pos 0) ≡ true
 zero_at zero h = refl
 zero_at (suc x) h = absurd (omega arith)
@@ -74,6 +73,7 @@ flat_axis d n x k unused lt = elim (cases_lt k d) [
     or_right true q h = refl
     or_right false q h = h
 
+-- each cell of a slice lies at a position of Z^d, where d is the rule's dimension
 pub flat_at : (r : LocalRule) (s : Strip) (x : ℤ) (i : ℕ) → IsFor r s → i < cells s → is_flat r.dimension (cell_at s x i).position ≡ true
 flat_at r s x i for h =
     let p = parts_of s i for.sized h in

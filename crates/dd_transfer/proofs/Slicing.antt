@@ -82,7 +82,8 @@ module _ (r : LocalRule) (s : Strip) (look : Look) (for : IsFor r s) where
       ∙ (listed-add f (m * c) (n * c)
       ∙ ap (λ (xs : List ℕ). listed f (m * c) ++ xs) (listed-same (λ k. f (m * c + k)) (symbol_from s look (x +ℤ pos m)) (n * c) (λ k _. ap (λ (d : Cell). unwrap_or (look d) 0) (further x m k))))
 
-  -- a slice has as many fillings as there are lists of a symbol for each of its cells; `slices_powers` says this of n slices
+  -- the number of different slices is the number of symbols to the power of the number of cells in a slice; `slices_powers` says the same of rows of
+  -- n slices
   pub slices_power : slices r (positions s) ≡ r.symbols ^ cells s
   slices_power = ap (λ (n : ℕ). r.symbols ^ (n * positions s)) (sym for.nodes)
 

@@ -8,7 +8,8 @@ use Rattle.dd_counts.specs.Rules.{slices, states}
 use Rattle.dd_strip.specs.{declared.strip.Strip.Strip, Strips.positions}
 use Rattle.dd_transfer.specs.Transfers.{IsEdge, slice_weight}
 
--- a walk from u through these states, the last of which is v: each state has an edge to the next
+-- a walk from u through these states to v: u has an edge to the first, each state has one to the next, and the last is v; if there are no states,
+-- v is u
 abbrev pub IsWalk : LocalRule → Strip → ℕ → List ℕ → ℕ → Type 0
 IsWalk r s u [] v = u ≡ v
 IsWalk r s u (w ∷ ws) v = ((t : ℕ) × IsEdge r s u t w) × IsWalk r s w ws v

@@ -255,8 +255,8 @@ const OPPOSITE: &str = "%auto f when o=1 give 1 else 0 %auto g when o=1 give 0 e
 // An automaton that gives each cell the other symbol and is applied twice, and one that gives 0 to each cell.
 const TWICE: &str = "%auto f when o=1 give 0 else 1 %compose h f f %auto g else 0 %same h g x";
 
-/// The header of a script, a premise, a query with the rules and automata that it names, a radius, and the number of admissible
-/// fillings that have the goal.
+/// The header of a script, a premise, a query with the other rules and the automata that it names, a radius, and the number of
+/// admissible fillings that have the goal.
 const QUESTIONS: &[(&str, &str, &str, u32, u32)] = &[
     ("%dim 1", "o=1 -> o.rt=0", "%empty x", 1, 5),
     ("%dim 1", "o.lt=o.rt", "%empty x", 1, 4),

@@ -1,4 +1,4 @@
-// The clauses of a small question, and the numbers of clauses of larger ones, worked out by hand.
+// The clauses of a small question, and bounds on the numbers of clauses of larger ones, worked out by hand.
 use crate::questions::clauses_of;
 use crate::scripts::script_of;
 use dd_clause::{Clause, Cnf};
@@ -52,8 +52,8 @@ fn no_cell_has_two_symbols(rt: HostRuntime) -> Result<(), Fail> {
     Ok(())
 }
 
-/// The number of clauses of a question on the box of this radius, or on the torus with this period along each axis, if that has
-/// more positions. The premise is the script's first rule, and the goal has `goal` clauses. A number over the limit
+/// A bound on the number of clauses of a question on the box of this radius, or on the torus with this period along each axis,
+/// if that has more positions. The premise is the script's first rule, and the goal has `goal` clauses. A bound over the limit
 /// `MOST_CLAUSES` is cut off to one more than the limit.
 fn size_of(script: &Script, goal: u32, radius: u32, period: u32) -> Result<u32, Fail> {
     if radius > 8 {
@@ -63,20 +63,22 @@ fn size_of(script: &Script, goal: u32, radius: u32, period: u32) -> Result<u32, 
     Ok(question_clauses(rule, goal, radius, period, MOST_CLAUSES))
 }
 
-/// The number of clauses that `size_of` finds for the script with this text.
+/// The bound that `size_of` finds for the script with this text.
 fn size(alloc: Global, script: &str, goal: u32, radius: u32, period: u32) -> Result<u32, Fail> {
     let script = script_of(alloc, &[script])?;
     size_of(&script, goal, radius, period)
 }
 
-/// A script with a rule, the number of clauses of the goal, a radius, a period, and the number of clauses of the question on
-/// the box or the torus, whichever has more positions. Along each axis it has `2 * radius + 1` or `period` positions, whichever
-/// is more. Each cell, even at the edge, has:
+/// A script with a rule, the number of clauses of the goal, a radius, a period, and a bound on the number of clauses of the
+/// question on the box or the torus, whichever has more positions. Along each axis it has `2 * radius + 1` or `period`
+/// positions, whichever is more. The bound counts the goal's clauses and, for each cell, even at the edge:
 /// - one clause that says that it has a symbol;
 /// - for each two symbols, one that says that it doesn't have both;
 /// - for each symbol that its node doesn't allow, one that says that it doesn't have this symbol;
 /// - one that says that the rule is true there;
 /// - the clauses of the rule's gates: `k + 1` for a gate over `k` parts, and 4 for an equivalence.
+///
+/// On a box, the question has clauses of the last two kinds only for cells where the box holds all that the rule reads.
 const SIZES: [(&str, u32, u32, u32, u32); 18] = [
     // Each cell has 1 + 1 + 1 clauses, and 3 for a gate over two parts.
     (BOTH, 0, 0, 1, 6),

@@ -36,8 +36,8 @@ const DISCHARGES: [(&str, &str); 16] = [
         "%dim 3 %rule dom Ep[o1] p=1 %discharge dom 0 0 [1 0 0] [-1 0 0] [0 1 0] [0 -1 0] [0 0 1] [0 0 -1]",
         "query 1 BOUND 1/7\n",
     ),
-    // A 0 weighs 1, so the weight counts the cells that an independent set leaves out: two of the three cells of a triangle, and
-    // three of the four cells of a square in the king's lattice.
+    // A 0 weighs 1, so the weight counts the cells that an independent set leaves out: at least two of the three cells of a
+    // triangle, and at least three of the four cells of a square in the king's lattice.
     (
         "%topology triangle %weights 1 0 %rule apart o=0 | (o.rt=0 & o.up=0 & o.ne=0) %discharge apart 0 1 [1 0] [1 1]",
         "query 1 BOUND 2/3\n",

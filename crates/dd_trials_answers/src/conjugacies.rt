@@ -78,11 +78,11 @@ const CHECKED: [(&str, bool); 10] = [
     // At the origin the composition gives the symbol back.
     ("query 1 BROKEN 3 2\nconf 0 1\n", false),
     // The first configuration doesn't obey the rule. The second obeys it, but its image, which has only 0s, obeys it too. The
-    // third answer is one to another kind of query.
+    // third answer belongs to another kind of query.
     ("query 1 BROKEN 3 1\nconf 1\n", false),
     ("query 1 BROKEN 1 2\nconf 1 0\n", false),
     ("query 1 NO 2\nconf 1 0\n", false),
-    // The automaton does lose information, so no steps refute the clauses of the third question. The last answer is one to
+    // The automaton does lose information, so no steps refute the clauses of the third question. The last answer belongs to
     // another kind of query.
     (
         "query 1 CONJUGATE 1 1 0 0\nrefutation 1\nstep 0 1 0 0\nrefutation 1\nstep 0 1 0 0\nrefutation 1\nstep 0 1 0 0\nrefutation 1\nstep 0 1 0 0\n",
@@ -91,7 +91,7 @@ const CHECKED: [(&str, bool); 10] = [
     ("query 1 YES 0\nrefutation 1\nstep 0 1 0 0\n", false),
 ];
 
-// A script whose automata are inverse maps.
+// A script whose automaton, the identity, is its own inverse.
 const ONES: &str =
     "%dim 1 %rule ones o=1 %auto id when o=1 give 1 else 0 %conjugate id id ones ones";
 

@@ -68,7 +68,8 @@ const DENSITIES: [(&str, &str); 15] = [
         "%dim 1 %nodes a b %topology (r a [1] a) %only b 1 %rule full o@o %density full []",
         "query 1 DENSITY 1/1\n",
     ),
-    // A rule that no configuration obeys. Then strips of circumference three and four, coloured with two colours.
+    // A rule that no configuration obeys. Then strips of circumference three and four. Only the second of them can be coloured
+    // with two colours.
     (
         "%dim 1 %rule stuck o.rt=1 & !(o=1 & o.rt=1) %density stuck []",
         "query 1 EMPTY\n",

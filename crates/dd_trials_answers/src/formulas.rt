@@ -1,5 +1,5 @@
 // What formulas mean. The scripts of the first tables ask whether a formula is true at every cell of a configuration. If it
-// isn't, the answer has the first cell at which it is false. These answers are found by hand. The last table is about limits.
+// isn't, the answer has the first cell at which it is false. These answers were found by hand. The last table is about limits.
 // The expansion of a formula has all quantifiers written out over their cells. The instances of the formula are the parts of
 // its expansion. The reach of the formula is the greatest distance along an axis at which it reads a cell.
 use dd_trials_runs::run_on;
@@ -124,7 +124,7 @@ const EXPANSIONS: [(&str, &str); 11] = [
         "%topology king %rule a LARGE (r=0 & FAR=0)",
         "refused 2 size instances",
     ),
-    // The instances of an automaton are those of all its cases together.
+    // The instances of all cases of an automaton are counted together.
     (
         "%auto f when Ap[o2] FAR=0 give 0 when LARGE r=0 give 0 else 1",
         "refused 1 size reach",

@@ -65,7 +65,7 @@ const CHECKED: [(&str, bool); 9] = [
         "query 1 LEAST 1\nconf 1\nrefutation 1\nstep 0 3 5 6 0 0\n",
         false,
     ),
-    // Some configuration obeys the rule. The last two answers are ones to other kinds of query.
+    // Some configuration obeys the rule. The last two answers belong to other kinds of query.
     ("query 1 NONE\nrefutation 1\nstep 0 3 4 6 0 0\n", false),
     ("query 1 UNKNOWN limits\n", false),
     ("query 1 YES 0\nrefutation 1\nstep 0 3 4 6 0 0\n", false),

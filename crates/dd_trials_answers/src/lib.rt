@@ -1,8 +1,8 @@
 //! Tests of answers. A run reads a script and writes an output, which has an answer to each query. A check reads an output, and
 //! accepts all of its answers or rejects one. UNKNOWN is followed by a reason, such as `limits`. It needs no evidence, but a
-//! check accepts it only if queries of this kind can have this reason. Most tests ask what runs answer to each kind of query,
-//! and which answers a check accepts. Some ask what accepted answers exclude from configurations, periodic or not, or which
-//! scripts and words are refused. These tests use only the public items of the crates that they test.
+//! check accepts it only if the query is of a kind that can have this reason. Most tests ask what runs answer to each kind of
+//! query, and which answers a check accepts. Some ask what accepted answers exclude from configurations, periodic or not, or
+//! which scripts and words are refused. These tests use only the public items of the crates that they test.
 //!
 //! A box question has a premise, which is a rule, and a goal, such as that another rule is broken. It asks whether no
 //! configuration that obeys the premise has the goal at the origin. YES means that none has, and gives the radius of a box. NO

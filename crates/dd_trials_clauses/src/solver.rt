@@ -38,7 +38,7 @@ fn cnf_of(alloc: Global, variables: u8, numbers: &[i32]) -> Result<Cnf, AllocErr
     Ok(cnf)
 }
 
-/// Adds the pigeonhole clauses: each pigeon is in one of the holes, no two pigeons share a hole, and there is one more pigeon
+/// Adds the pigeonhole clauses: each pigeon is in one of the holes, and no two pigeons share a hole. There is one more pigeon
 /// than holes. The variable `first + holes * p + h` says that the pigeon p is in the hole h.
 fn push_pigeonholes(numbers: &mut Vec<i32>, first: i32, holes: i32) -> Result<(), AllocError> {
     let variable = |pigeon: i32, hole: i32| {

@@ -141,7 +141,7 @@ fn three_filled(alloc: Global) -> Result<Filling, Fail> {
     Ok(Filling::new(domain, symbols))
 }
 
-/// The coordinates of a cell, and its symbol.
+/// The coordinates of a cell, and its symbol, if it has one.
 const FILLED: &[(i32, i32, Option<u32>)] = &[
     (0, 0, Some(4)),
     (1, 0, Some(5)),

@@ -1,7 +1,8 @@
 //! Small linear programs. The variables of a program are its columns, which are at least 0. A row says that the sum of its
 //! coefficients times the columns is at most its bound. The cap is a bound on column 0, which is maximised. An answer has the
-//! greatest value, the columns at which it is taken, and the duals: factors for the cap and the rows that show that no value is
-//! greater. The results were worked out by a reference implementation with exact fractions, and by trying all vertices.
+//! greatest value, the columns at which it is taken, and the duals. These are factors for the cap and the rows, and they show
+//! that no value is greater. The results were worked out by a reference implementation with exact fractions, and by trying all
+//! vertices.
 use dd_fraction::Fraction;
 use dd_simplex::{Program, SimplexFault, Solved, maximise};
 use std::alloc::{AllocError, Global};
@@ -381,8 +382,8 @@ const CASES: &[(&str, u32, i64, &str, u32, &str)] = &[
     ),
     // The dictionary writes the objective and some of the variables in terms of the others, on a line each. The costs are the
     // coefficients of the objective. The objective is column 0. So, once column 0 has a line, the line of the objective in the
-    // dictionary has the same numbers as the line of column 0. That line is computed first. In the next six cases no line but
-    // these two has a number that is too large.
+    // dictionary has the same numbers as the line of column 0. The line of column 0 is computed first. In the next six cases no
+    // line but these two has a number that is too large.
     (
         "first past 2^127: the product in the value, 9 * 2^124",
         2,

@@ -47,7 +47,7 @@ fn assert_first_faults(rt: &impl Abort, alloc: Global, faults: &[(&[u8], u32)]) 
     }
 }
 
-/// Bytes and words that aren't allowed where they are: before the first command, in a command or after one.
+/// Bytes and words that aren't allowed where they are, before the first command or in one, and commands that break off.
 const FAULTS_OF_TEXT: [(&[u8], u32); 9] = [
     (b"x", 0),
     (b"%", 1),
@@ -79,7 +79,7 @@ const FAULTS_OF_HEADERS: [(&[u8], u32); 15] = [
     (b"%weights 1 2 %only 0 0", 2),
 ];
 
-/// Configurations and queries with wrong parts, and words that aren't commands.
+/// Configurations and queries with wrong parts, and a `%` that isn't followed by the first word of a command.
 const FAULTS_OF_COMMANDS: [(&[u8], u32); 13] = [
     (b"%conf c [-1] 0", 1),
     (b"%conf c [1]", 1),
@@ -96,7 +96,7 @@ const FAULTS_OF_COMMANDS: [(&[u8], u32); 13] = [
     (b"%%empty a", 1),
 ];
 
-/// Rules and automata in which a formula or a case isn't well formed.
+/// Rules and automata in which a formula or a case isn't well formed, or the `else` is missing.
 const FAULTS_OF_FORMULAS: [(&[u8], u32); 7] = [
     (b"%auto a when o=1 else 0", 1),
     (b"%auto a when o=1 give 0", 1),
@@ -128,8 +128,8 @@ fn written(alloc: Global, pieces: &[(&[u8], u32)]) -> Result<Vec<u8>, Fail> {
 }
 
 // The depth of a formula is at most 64. An atom, such as `o=1`, has depth 0. Each `!`, quantifier, pair of parentheses and sign
-// is one deeper than its deepest part. All the `&` of a chain count as one sign, and so do all its `|`. Each row has the pieces
-// of a text, each with how often it is repeated, and the number of the faulty command, if there is one.
+// is one deeper than its deepest part. All the `&` of a chain, or all the `|` of a chain, count as one sign. Each row has the
+// pieces of a text, each with how often it is repeated, and the number of the faulty command, if there is one.
 #[test]
 fn depth_has_a_limit(rt: HostRuntime) -> Result<(), Fail> {
     let start: (&[u8], u32) = (b"%rule a ", 1);

@@ -134,7 +134,7 @@ fn refuses_what_is_no_script(rt: HostRuntime) -> Result<(), Fail> {
     assert_refused(&rt, alloc, &PAST_A_LIMIT)
 }
 
-// A script with one configuration, which has a period of 2,000,000 and this many symbols.
+// A text with one configuration, which has a period of 2,000,000 and this many symbols.
 fn long_configuration(alloc: Global, symbols: usize) -> Result<Vec<u8>, AllocError> {
     let mut text = Vec::new(alloc);
     text.extend_from_slice(b"%dim 1 %alphabet 0 a %conf c [2000000] ")?;

@@ -7,8 +7,9 @@ use crate::bounds::{GREATEST_PERIOD, GREATEST_RADIUS, MOST_PIVOTS};
 /// The limits on the work for one answer. Beyond them the answer is UNKNOWN.
 #[derive(Clone, Copy, Debug, PartialEq, Eq)]
 pub struct Limits {
-    /// The greatest radius of a box around the origin that the search tries. One box is tried even if its radius is greater: the
-    /// smallest one that holds all cells that the goal reads. (The goal is what the search looks for, such as a broken rule.)
+    /// The greatest radius of a box around the origin that the search tries. One box is tried even if its radius is greater:
+    /// the smallest one that holds all cells that the goal reads. (The goal is what the search looks for, such as a broken
+    /// rule.)
     pub radius: u32,
     /// The greatest period of a torus along each axis.
     pub period: u32,

@@ -15,7 +15,7 @@ fn deeper(depth: u32, more: u32) -> u32
 }
 
 /// The number of signs above the part at `index` in the tree of a chain with `count` parts, capped at 65. All the `&` of a
-/// chain count as one sign, and so do all its `|`. The other two signs group: `a -> b -> c` is `a -> (b -> c)`, and
+/// chain count as one sign, and so do all the `|` of a chain. The other two signs group: `a -> b -> c` is `a -> (b -> c)`, and
 /// `a <-> b <-> c` is `(a <-> b) <-> c`.
 fn signs_over(join: Join, count: usize, index: usize) -> u32
     requires { index < count }

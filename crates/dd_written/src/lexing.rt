@@ -78,8 +78,8 @@ fn is_ascii(bytes: &[u8]) -> bool
     bytes.iter().all(|byte| byte.is_ascii())
 }
 
-/// The lexemes of some bytes, up to the first byte that isn't allowed. If there is such a byte, `Stray` comes last. There may be
-/// at most 1,048,576 bytes. Fails only if memory runs out.
+/// The lexemes of some bytes, up to the first byte that isn't allowed. If there is such a byte, `Stray` comes last. There may
+/// be at most 1,048,576 bytes. Fails only if memory runs out.
 pub fn lexemes(alloc: Global, bytes: &[u8]) -> Result<Items<Lexeme>, AllocError>
     requires { length bytes.now ≤ most_script }
     ensures value { IfOk result (λ lexemes. lexemes ≡ lexemes_of bytes.now) }

@@ -4,8 +4,8 @@
 //!
 //! A sign is `&`, `|`, `->` or `<->`, and a chain is two or more formulas with the same sign between them. The depth of an
 //! atom, a formula without parts, is 0. Each `!`, quantifier, pair of parentheses and sign is one deeper than its deepest part.
-//! All the `&` of a chain count as one sign, and so do all its `|`. The text of a word or a number is its bytes, but the text
-//! of a formula is the list of its lexemes.
+//! All the `&` of a chain count as one sign, and so do all the `|` of a chain. The text of a word or a number is its bytes, but
+//! the text of a formula is the list of its lexemes.
 #![tactic(auto)]
 
 mod depth;

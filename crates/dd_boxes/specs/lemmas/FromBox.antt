@@ -26,7 +26,7 @@ cut_at_origin x n look v c h = cut_near x n look origin v c h ∙ ap (λ u. look
 pub box_over : (x : LocalRule) (s : CommonNumbers) (f g : Automaton) (n : ℕ) (c : Cell) → AreOver x s f g → is_cell_within s n c ≡ is_box_cell x n c
 box_over x s f g n c over = rw (over.dimension, over.nodes) refl
 
--- if the filling covers the box round v, the cut has a symbol at each cell of the box, and so at each cell that the goal reads at the origin
+-- if the filling covers the box round v, the cut has a symbol at each cell of B(n), and so at each cell that the goal reads at the origin
 cut_has : (x : LocalRule) (n : ℕ) (look : Look) (v : Place) → Covers x n look v → (p : Cell → Bool) → ((c : Cell) → p c ≡ is_box_cell x n c) →
     (ds : List Cell) → list_all p ds ≡ true → list_all (λ c. is_some (cut x n look v (shifted origin c))) ds ≡ true
 cut_has x n look v covers p same ds reach =

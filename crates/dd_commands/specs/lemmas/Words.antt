@@ -41,12 +41,12 @@ either_of written (h ∷ hs) ks = grind (arith, common_steps, either_of written 
 pub either_head : (written : List ℕ) → one_of head_text heads written ≡ option_or (one_of head_text other_heads written) (option_map Head.Query (one_of kind_word query_kinds written))
 either_head written = either_of written other_heads query_kinds
 
--- the first head in the list with the first word of h is h itself; so no two heads have the same first word
+-- of the heads with the same first word as h, h comes first in the list; so no two heads have the same first word
 pub head_first : (h : Head) → one_of head_text heads (head_text h) ≡ Some h
 head_first (Head.Query QueryKind.Member) = refl
 head_first h = refl
 
--- the first built-in topology in the list with the name of k is k itself; so no two have the same name
+-- of the built-in topologies with the same name as k, k comes first in the list; so no two have the same name
 pub kind_first : (k : Kind) → one_of kind_text kinds (kind_text k) ≡ Some k
 kind_first Kind.Line = refl
 kind_first k = refl

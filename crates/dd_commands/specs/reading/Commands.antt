@@ -52,7 +52,7 @@ automaton_at bytes = both word_at (both (each_at (case_at bytes)) (wanted bytes 
 abbrev pub names : Form (List Name)
 names = some (map name_lexeme) name_at
 
--- reads one vector without negative numbers, and gives a list of it alone
+-- reads one vector without negative numbers, and gives the list that holds only this vector
 abbrev pub one_plain : Reader (List Vector)
 one_plain = made (λ v. v ∷ []) plain.item
 

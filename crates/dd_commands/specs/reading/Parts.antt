@@ -5,7 +5,7 @@ use Rattle.dd_commands.specs.{Tree.Lexeme, Tree.Written, Tree.SyntaxFault, readi
 use Rattle.dd_written.specs.reading.Readers.{◌>>=◌}
 use Rattle.dd_commands.specs.{Heads.head_of, Heads.stage, Scripts.is_percent, Scripts.is_whole, Scripts.AreWritten, Scripts.IsBadCommand}
 
--- whether a token belongs to a part: it is not the `%` before the next part
+-- whether a token is not a `%`; each part ends before the next `%`
 abbrev pub is_inside : Lexeme → Bool
 is_inside t = not (is_percent t)
 

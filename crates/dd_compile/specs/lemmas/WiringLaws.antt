@@ -66,7 +66,7 @@ pub missing : (w : Wiring) (cs : List Cell) (c : Cell) (s i : ℕ) → IsWiring 
     IsBinarySearchResult (λ y. cell_cmp y c) cs (Err i) → None ≡ wire_of w c s
 missing w cs c s i ok same within h = ap (λ o. signal_for o s) (sym (missing_list w cs c i ok same within h))
 
--- if a cell that comes after all others is added to a wiring with its signals, the result is a wiring
+-- if a cell that comes after all others is added to a wiring, together with its signals, the result is a wiring
 pub one_more : (w : Wiring) (c : Cell) (ss : List Signal) (cs : List Cell) (sss : List (List Signal)) → IsWiring w → All (λ d. cell_cmp d c ≡ Less) w.cells →
     cs ≡ w.cells ++ c ∷ [] → sss ≡ w.signals ++ ss ∷ [] → IsWiring (record { cells = cs; signals = sss })
 one_more w c ss cs sss ok before cells signals = record {

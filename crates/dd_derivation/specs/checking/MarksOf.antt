@@ -61,6 +61,6 @@ FalsesAre marks step seen falses = (l : Literal) → is_false marks step seen l 
 abbrev pub AreUpTo : ℕ → List VariableMark → Type 0
 AreUpTo step marks = All (λ m. m.step ≤ step) marks
 
--- each mark was made by an earlier step
+-- no mark was made by this step or a later one
 abbrev pub AreBelow : ℕ → List VariableMark → Type 0
 AreBelow step marks = All (λ m. m.step < step) marks

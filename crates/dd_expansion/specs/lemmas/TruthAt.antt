@@ -36,8 +36,8 @@ same_where : {A : Type 0} (b : Bool) (x y : A) → (b ≡ true → x ≡ y) → 
 same_where true x y h = ap Some (h refl)
 same_where false x y h = refl
 
--- The answer of `evaluate`, which is none if some leaf has no symbol, is the truth value of the formula at c. It is none if some cell that is read
--- has no symbol, as seen from the position of c.
+-- The answer of `evaluate` is none exactly if some cell that the formula reads has no symbol, as seen from the position of c. Otherwise it is the
+-- truth value of the formula at c.
 pub truth_where_given : (es : List Edge) (n : ℕ) (f : Formula) (c : Cell) (look : Look) → 1 ≤ n → HasSymbolsBelow n look →
     cond (given (expansion es n f (origin_at c.node ∷ [])) (seen look c.position)) (Some (holds (expansion es n f (origin_at c.node ∷ [])) (seen look c.position))) None
     ≡ cond (list_all (λ d. is_some (seen look c.position d)) (reads es f (origin_at c.node ∷ []))) (Some (truth es f (c ∷ []) look)) None

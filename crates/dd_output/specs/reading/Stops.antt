@@ -43,7 +43,7 @@ abbrev pub Gives : {X A : Type 0} → (X → A) → Result X ReadFault → Resul
 Gives view (Ok x) read = read ≡ Ok (view x)
 Gives view (Err e) read = Fails e read
 
--- the word w
+-- a given word
 abbrev pub word_at : List ℕ → List ℕ → Read (Unit {0})
 word_at [] bytes = Ok (tt, bytes)
 word_at (w ∷ word) [] = Err (stop [] (w ∷ word))

@@ -160,8 +160,8 @@ pub record Stands (l : Layout) (x : LocalRule) (g : GoalOf) (symbols : List ℕ)
   pub premise : premise_holds l x (layout_look l symbols) ≡ true
   pub goal : goal_holds g (layout_look l symbols) ≡ true
 
--- Where the premise fits, each leaf of the premise has its input. Each cell that the goal reads at the origin has inputs. The
--- goal's alphabet is the premise's.
+-- Where the premise fits, each leaf of the premise has its input. Each cell that the goal reads at the origin has inputs. A
+-- look-up that gives only symbols of the premise's alphabet gives only symbols of the goal's alphabet.
 pub record IsWired (l : Layout) (x : LocalRule) (g : GoalOf) : Type 0 where
   pub layout : IsLayout l
   pub reads : list_all (job_reads l x g) (jobs l x) ≡ true

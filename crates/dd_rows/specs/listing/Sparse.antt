@@ -6,8 +6,8 @@ use Rattle.dd_rows.specs.declared.{rows.Row.Row, sparse.Exchange.Exchange, spars
 use Rattle.dd_rows.specs.{declared.views.Views.Views, Patterns.pattern_number, Programs.one_at, Programs.coefficients, Programs.add_row}
 use Rattle.dd_rows.specs.listing.Views.{symbols_at}
 
--- What the origin exchanges along a vector: it gives the amount of one pattern, and receives that of another. If the two are
--- the same, there is no exchange, since the amounts cancel.
+-- What the origin exchanges along a vector, from the numbers of two patterns. It gives the amount of the first pattern, and
+-- receives that of the second. If the two are the same, there is no exchange, since the amounts cancel.
 abbrev pub exchange_of : ℕ → ℕ → Option Exchange
 exchange_of gives receives = cond (nat_eq gives receives) None (Some (record { gives = gives; receives = receives }))
 

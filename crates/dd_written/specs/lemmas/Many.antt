@@ -19,7 +19,7 @@ many_sound {X} reads begins item sound (suc n) tokens xs rest e =
     ]
 
 -- If `reads` holds of an item, then `begins` must hold before it, and `item` must read it. Then `many` reads all the items of which `ReadsAll` holds,
--- if there are at most n. If there are fewer than n, `begins` must not hold after the last.
+-- if there are at most n. If there are fewer than n, `begins` must not hold after them.
 pub many_again : {X : Type 0} (reads : X → List Lexeme → List Lexeme → Type 0) (begins : List Lexeme → Bool) (item : Reader X)
     → ((x : X) (tokens rest : List Lexeme) → reads x tokens rest → (begins tokens ≡ true) × (item tokens ≡ Some (x, rest)))
     → (n : ℕ) (xs : List X) (tokens rest : List Lexeme) → length xs ≤ n → (length xs < n → begins rest ≡ false) → ReadsAll reads xs tokens rest → many begins item n tokens ≡ Some (xs, rest)

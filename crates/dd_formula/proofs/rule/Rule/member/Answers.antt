@@ -9,7 +9,7 @@ use Rattle.dd_formula.specs.lemmas.Reached.{box_given, tile_below}
 use Rattle.dd_formula.proofs.LivesLaws.{true_in, lives_from_box, first_from_box}
 use Rattle.dd_formula.proofs.rule.Rule.member.Goals as goal
 
--- `truth` returns a truth value at each cell of the box, since all cells that are read there have symbols
+-- `truth` returns a truth value at each cell of the box, since each cell that is read there lies in the range of positions and has a symbol
 told : (r : LocalRule) (t : Tile) (i : ℕ) (c : Cell) (answer : Option Bool) → IsRule r → Fits r t → IsPeriodic t → i < length t.symbols → c ≡ cell_in t i →
     answer ≡ cond (is_given r c (tile_look t)) (Some (is_true r c (tile_look t))) None → answer ≡ Some (is_true r (cell_in t i) (tile_look t))
 told r t i c answer rule fits ok within is_cell said =
