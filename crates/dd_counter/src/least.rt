@@ -4,9 +4,8 @@
 //! shows that none is lighter. While the weight may still be far above the least weight, a search asks for a much lighter
 //! configuration, so that few searches are needed.
 ghost use Rattle.std.specs.Prelude.{◌≡◌, ◌≤◌, ◌*◌, ◌↔◌, length, All, IfOk};
-ghost use Rattle.dd_values.specs.Bounds.{most_variables, most_weight};
+ghost use Rattle.dd_values.specs.Bounds.{most_weight};
 ghost use Rattle.dd_pattern.specs.Periods.{periods_of, periods_volume};
-ghost use Rattle.dd_boxes.specs.Goals.{always};
 ghost use Rattle.dd_boxes.specs.Counts.{most_clauses};
 ghost use Rattle.dd_boxes.specs.TorusPeriods.{AreTorusPeriods};
 ghost use Rattle.dd_solver.specs.Answers.{IsAnswer, IsRefuted, IsSatisfiable};

@@ -1,8 +1,6 @@
 //! The clauses that ask for a living configuration whose weight is below a bound.
 ghost use Rattle.std.specs.Prelude.{◌≡◌, ◌≤◌, ◌*◌, length, IfOk};
-ghost use Rattle.dd_values.specs.Bounds.{most_variables};
-ghost use Rattle.dd_pattern.specs.Periods.{periods_of, periods_volume};
-ghost use Rattle.dd_boxes.specs.Goals.{always};
+ghost use Rattle.dd_pattern.specs.Periods.{periods_of};
 ghost use Rattle.dd_boxes.specs.Counts.{most_clauses};
 ghost use Rattle.dd_boxes.specs.TorusPeriods.{AreTorusPeriods};
 ghost use Rattle.dd_counter.specs.Weights.{weight_problem, weight_count, ShowsWeights};

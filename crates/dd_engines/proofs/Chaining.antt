@@ -1,16 +1,16 @@
 -- Chains of links. One more link changes none of the earlier chains.
-use Rattle.std.proofs.Common.{◌≡◌, ◌≢◌, ◌⊎◌, ℕ, zero, suc, ◌+◌, ◌<◌, ◌≤◌, false, get_or, take, drop, List, [], ◌∷◌, ◌++◌, Option, Some, None, refl, sym, ◌∙◌, ap, inl, inr, length, arith, add-one}
+use Rattle.std.proofs.Common.{◌≡◌, ◌≢◌, ◌⊎◌, ℕ, zero, suc, ◌+◌, ◌<◌, ◌≤◌, false, get_or, take, List, [], ◌∷◌, ◌++◌, Option, Some, None, refl, sym, ◌∙◌, ap, inl, inr, length, arith, add-one}
 use Rattle.std.proofs.Math.ListN.{set, replicate}
-use Rattle.std.proofs.lemmas.List.{get_or-set_same, get_or-set_other, length-append, drop_more}
+use Rattle.std.proofs.lemmas.List.{get_or-set_same, get_or-set_other, length-append}
 use Rattle.std.proofs.lemmas.{List.Elements.All-set, List.Elements.All-weaker, Option.slice_get-get_or}
 use Rattle.std.proofs.lemmas.{Bool.cases_Bool, Bool.false≢true, Grind.common_steps}
 use Rattle.std.proofs.lemmas.List.Sums.{count_by_more_yes, count_by_more_no}
 use Rattle.std.specs.{List.slice_get, List.All, Option.option_map_or}
 use Rattle.dd_clause.specs.declared.clause.Literal.{Literal}
 use Rattle.dd_derivation.specs.{Derivations.same_literal, lemmas.Soundness.same_literal-eq}
-use Rattle.dd_engines.specs.declared.chains.{Link.Link, Chains.Chains}
-use Rattle.dd_engines.specs.walking.Truths.{times_in, place_of, occurrences}
-use Rattle.dd_engines.specs.walking.Chains.{along, chain_of, AreLinked, HasChain, numbers_of, AreChained}
+use Rattle.dd_engines.specs.declared.chains.Link.{Link}
+use Rattle.dd_engines.specs.walking.Truths.{times_in, place_of}
+use Rattle.dd_engines.specs.walking.Chains.{along, chain_of, AreLinked}
 
 get_front : (xs : List Link) (e : Link) (k : ℕ) → k < length xs → slice_get (xs ++ e ∷ []) k ≡ slice_get xs k
 get_front [] e k lt = absurd (omega (arith, lt))
@@ -125,10 +125,3 @@ added_more m x d xs i number first before after lt is a b so_far here other = el
       let times : times_in m (take (i + 1) xs) ≡ times_in m (take i xs) = count_by_more_no (same_literal m) xs i d lt (ap (same_literal m) (sym is) ∙ f) in
       other (place_differs m x a b f) ∙ so_far ∙ ap (λ (n : ℕ). replicate n number ++ first) (sym times)
 ]
-
--- a clause is put in front of those with greater numbers
-pub chained_more : (old new : Chains) (clauses : List (List Literal)) (i : ℕ) (clause : List Literal) → i < length clauses → clause ≡ get_or clauses i clause → length new.firsts.items ≡ length old.firsts.items
-    → AreChained old (i + 1) (drop (i + 1) clauses) → ((l : Literal) → HasChain old l → numbers_of new l ≡ replicate (times_in l clause) i ++ numbers_of old l) → AreChained new i (drop i clauses)
-chained_more old new clauses i clause lt is long chained added l has =
-    let had : HasChain old l = (has.0, omega (arith, has.1, long)) in
-    added l had ∙ ap (λ (ks : List ℕ). replicate (times_in l clause) i ++ ks) (chained l had) ∙ ap (occurrences l i) (ap (λ (c : List Literal). c ∷ drop (i + 1) clauses) is ∙ sym (drop_more clauses i clause lt))

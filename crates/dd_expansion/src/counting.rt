@@ -1,6 +1,5 @@
 //! How many clauses an expansion takes once it is written as a circuit of gates, and the gates as clauses.
-ghost use Rattle.std.specs.Prelude.{◌≡◌, ◌+◌, ◌^◌, ◌<◌, ◌≤◌, length};
-ghost use Rattle.std.specs.List.{sum_by};
+ghost use Rattle.std.specs.Prelude.{◌≡◌, ◌+◌, ◌^◌, ◌<◌, ◌≤◌};
 ghost use Rattle.dd_expansion.specs.Leaves.{instances, clause_count};
 
 use crate::expanded::Expanded;

@@ -1,7 +1,7 @@
 //! Compositions of two automata, and tests of their limits: on the number of instances (see `Automaton::instances`), on the reach
 //! (how far away a composition reads cells), and on the depth (how deep compositions are nested).
 ghost use Rattle.std.specs.Prelude.{◌≡◌, true, IfOk, IfErr, OnOk};
-ghost use Rattle.dd_formula.specs.Automata.{CommonNumbers, IsAutomaton, is_few, is_short, is_shallow};
+ghost use Rattle.dd_formula.specs.Automata.{IsAutomaton, is_few, is_short, is_shallow};
 ghost use Rattle.dd_formula.specs.Compositions.{AreAutomata, HaveNodes, OverBoth, StandFor, PassesDepth, IsCompositionFault, composition};
 
 use crate::automaton::Automaton;

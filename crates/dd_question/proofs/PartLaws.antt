@@ -1,14 +1,10 @@
--- A test that answers false is right about a statement that doesn't hold: it answers true exactly when the statement holds. The test that no vector
--- occurs twice in a list is passed exactly when the vectors are distinct.
+-- The test that no vector occurs twice in a list is passed exactly when the vectors are distinct.
 use Rattle.std.proofs.Common.{◌≡◌, Bool, true, false, List, [], ◌∷◌, refl}
-use Rattle.std.proofs.lemmas.Bool.{and_parts, or_parts, false≢true}
+use Rattle.std.proofs.lemmas.Bool.{and_parts, or_parts}
 use Rattle.std.specs.{Prelude.◌↔◌, Prelude.not, List.AllByRecursion, List.IsDistinct, Ordering.is_eq}
 use Rattle.dd_lattice.specs.{Place.Place, Order.place_cmp}
 use Rattle.dd_question.specs.measuring.Vectors.{is_among, are_apart}
 use Rattle.dd_values.specs.lemmas.Booleans.{not_true}
-
-pub nothing_holds : (A : Type 0) → ¬ A → (false ≡ true) ↔ A
-nothing_holds A none = (λ h. absurd (false≢true h), λ a. absurd (none a))
 
 abbrev same : Place → Place → Bool
 same p q = is_eq (place_cmp p q)

@@ -31,11 +31,11 @@ any_range p (suc n) a h = elim (or_cases (p a) (list_any p (range_with_len (a + 
   | inr later ↦ (let r = any_range p n (a + 1) later in let low = r.1 in (r.0, omega arith, r.2))
 ]
 
-none_of_range : (p : ℕ → Bool) (n a k : ℕ) → a ≤ k → k < a + n → p k ≡ true → list_any p (range_with_len a n) ≡ true
-none_of_range p zero a k low high h = absurd (omega arith)
-none_of_range p (suc n) a k low high h = elim (cases_first a k low) [
+any_of_range : (p : ℕ → Bool) (n a k : ℕ) → a ≤ k → k < a + n → p k ≡ true → list_any p (range_with_len a n) ≡ true
+any_of_range p zero a k low high h = absurd (omega arith)
+any_of_range p (suc n) a k low high h = elim (cases_first a k low) [
   | inl same ↦ or_first (p a) (list_any p (range_with_len (a + 1) n)) (ap p same ∙ h)
-  | inr later ↦ or_later (p a) (list_any p (range_with_len (a + 1) n)) (none_of_range p n (a + 1) k (omega arith) (omega arith) h)
+  | inr later ↦ or_later (p a) (list_any p (range_with_len (a + 1) n)) (any_of_range p n (a + 1) k (omega arith) (omega arith) h)
 ]
   where
     cases_first : (a k : ℕ) → a ≤ k → (a ≡ k) ⊎ (a < k)
@@ -64,10 +64,10 @@ goal_from_test always look h = tt
 pub test_from_goal : (g : GoalOf) (look : Look) → HasGoal g look origin → goal_holds g look ≡ true
 test_from_goal (breaks y) look h =
     let below = h.1 in
-    none_of_range (λ a. not (is_true y (cell origin a) look)) y.nodes 0 h.0 (omega arith) (omega arith) (ap not h.2)
+    any_of_range (λ a. not (is_true y (cell origin a) look)) y.nodes 0 h.0 (omega arith) (omega arith) (ap not h.2)
 test_from_goal (differ s f g) look h =
     let below = h.1 in
-    none_of_range (λ a. not (value f look (cell origin a) == value g look (cell origin a))) s.nodes 0 h.0 (omega arith) (omega arith)
+    any_of_range (λ a. not (value f look (cell origin a) == value g look (cell origin a))) s.nodes 0 h.0 (omega arith) (omega arith)
     (not_same (value f look (cell origin h.0)) (value g look (cell origin h.0)) h.2 (value f look (cell origin h.0) == value g look (cell origin h.0)) refl)
   where
     not_same : (u v : ℕ) → (u ≡ v → ⊥) → (b : Bool) → (u == v) ≡ b → not (u == v) ≡ true
