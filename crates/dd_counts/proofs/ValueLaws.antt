@@ -1,4 +1,4 @@
--- The number of clauses of an automaton's value, from the numbers of clauses of the values of its parts.
+-- The number of clauses of an automaton's value. That of a composition comes from its parts' values. That of cases is counted case by case.
 use Rattle.std.proofs.Common.{◌≡◌, ℕ, zero, suc, ◌+◌, ◌*◌, map, refl, ap, ◌∙◌, arith}
 use Rattle.std.specs.List.{range_with_len}
 use Rattle.dd_lattice.specs.{InOrder.in_order, declared.position.Cell.Cell}
@@ -14,7 +14,7 @@ value_composed n f g a =
     ap (λ (h : Valued). h.clauses a) (valued_composed n f g)
     ∙ ap (λ (k : Counted). total (map (λ (c : Cell). value_clauses n g c.node) (in_order (k.reads a))) + value_clauses n f a) (valued_counts n f)
 
--- the clauses of the gates of the cases, and those that the cases add to other gates, counted case by case
+-- Case i, counted from 0, takes i + 4 clauses: i + 2 for its own gate, and 2 that it adds to other gates. Here for the m cases from case k on.
 choosing : (k m : ℕ) → total (map (λ i. i + 4) (range_with_len k m)) ≡ total (map (λ i. gate_clause_count (i + 1)) (range_with_len k m)) + 2 * m
 choosing k zero = refl
 choosing k (suc m) = let rest = choosing (k + 1) m in omega (arith, rest)

@@ -1,12 +1,12 @@
--- How many patterns a rule has at a node, how many states and windows its transfer graph has over a strip, and the limits on these numbers. A strip
--- has periods along y and z, and no end along x. A slice of it consists of its cells with one value of x. The vertices of a transfer graph are
--- states. A state is a filling of successive slices.
+-- How many patterns a rule has at a node, how many states its transfer graph has over a strip, how many windows there are, and the limits on these
+-- numbers. A strip has periods along y and z, and no end along x. A slice of it consists of its cells with one value of x. The vertices of a transfer
+-- graph are states: a state fills successive slices, and a window fills one slice more.
 use Rattle.std.specs.Prelude.{ℕ, ◌+◌, ◌-◌, ◌*◌, ◌^◌, max, ℤ, pos, ◌-ℤ◌, unsigned_abs, List, length}
 use Rattle.std.specs.{Int.int_min, Int.int_max, List.fold}
 use Rattle.dd_lattice.specs.declared.position.Cell.{Cell}
 use Rattle.dd_formula.specs.{LocalRule.LocalRule, LocalRule.cells_at, Reach.all_cells}
 
--- the greatest number of patterns that a rule may have at a node
+-- the greatest number of patterns that a rule may have at a node if its patterns are to be listed
 abbrev pub most_patterns : ℕ
 most_patterns = 65536
 

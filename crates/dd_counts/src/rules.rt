@@ -1,8 +1,8 @@
-//! How many patterns a rule has at a node, how many states and windows its transfer graph has over a strip, and the limits on
-//! these numbers. A pattern is a filling of the cells that the rule reads at the node: it gives each of them a symbol. A strip
-//! has periods along y and z, and no end along x. A slice of a strip consists of its cells with one value of x. The vertices of
-//! a transfer graph are states: a state is a filling of `state_length` successive slices. A window is a filling of one slice
-//! more than a state has. Each edge is a window, but a window need not be an edge.
+//! How many patterns a rule has at a node, how many states its transfer graph has over a strip, how many windows there are, and
+//! the limits on these numbers. A filling gives each of its cells a symbol, allowed there or not. A pattern is a filling of the
+//! cells that the rule reads at the node. A strip has periods along y and z, and no end along x. A slice of a strip consists of
+//! its cells with one value of x. The vertices of a transfer graph are states: a state fills `state_length` successive slices,
+//! and a window fills one slice more. Each edge is a window, but a window need not be an edge.
 ghost use Rattle.std.specs.Prelude.{◌≡◌, ◌^◌, ◌<◌, ◌≤◌};
 ghost use Rattle.dd_formula.specs.Counts.{cut};
 ghost use Rattle.dd_counts.specs.Rules.{pattern_count, least_x, greatest_x, slice_span, state_length, slices, states, window_count};
@@ -10,7 +10,7 @@ ghost use Rattle.dd_counts.specs.Rules.{pattern_count, least_x, greatest_x, slic
 use dd_formula::{Rule, power};
 use dd_lattice::Cell;
 
-/// The greatest number of patterns that a rule may have at a node.
+/// The greatest number of patterns that a rule may have at a node if its patterns are to be listed.
 pub const MOST_PATTERNS: u32 = 65_536;
 
 /// The greatest number of states that a transfer graph may have.

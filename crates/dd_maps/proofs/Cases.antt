@@ -1,4 +1,4 @@
--- The cases of the identity, and what holds of two automata at once.
+-- The cases of the identity, and facts on two automata carried over to automata equal to them.
 use Rattle.std.proofs.Common.{◌≡◌, ◌<◌, ℕ, zero, suc, ◌+◌, ◌-◌, [], ◌∷◌, map, refl, sym, ◌∙◌, subst, arith}
 use Rattle.std.proofs.lemmas.{Bool.lt-ltb, List.FromFn.length-map-range_with_len, List.FromFn.get_or-map-range_with_len}
 use Rattle.std.specs.{Prelude.slice_index_or, List.range_with_len, List.All}

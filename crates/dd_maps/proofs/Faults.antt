@@ -9,7 +9,7 @@ use Rattle.dd_formula.specs.declared.fault.RuleFault.TheVariants.{Reach, Instanc
 use Rattle.dd_maps.specs.{Pairs.IsRuleOver, Pairs.marked, Refusals.PassesGuard, Refusals.IsMarkedFault, Refusals.IsImageFault}
 use Rattle.dd_maps.proofs.{Near.marked_short, Sizes.many_outer}
 
--- if an automaton is within the limits on instances and reach, the only possible fault is that memory ran out
+-- if an automaton given by cases is within the limits on instances and reach, the only possible fault is that memory ran out
 pub only_memory : (n : ℕ) (f : Counted) → is_few n f ≡ true → is_short n f ≡ true → (e : RuleFault) → IsCasesRefusal n f e → e ≡ Memory
 only_memory n f few short Instances h = absurd (let both : true ≡ false = sym few ∙ h in cc)
 only_memory n f few short Reach h = absurd (let both : true ≡ false = sym short ∙ h.1 in cc)

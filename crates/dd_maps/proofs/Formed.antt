@@ -21,7 +21,7 @@ kept_all p q n each =
     all_kept p q (range_with_len 0 n)
     ∙ list_all-weaker p (λ a. not (q a) || p a) (λ a h. ap (λ b. not (q a) || b) h ∙ or_true (not (q a))) (range_with_len 0 n) (range_all p n each)
 
--- the numbers of symbols and nodes in the guarded formula are in range
+-- if `formula_fits` holds of the formula, it holds of the guarded formula: each symbol and each node that a guard names exists
 module _ (g : Grid) (s : SymbolSets) where
   pub fits_symbol : (t : ℕ) → formula_fits g s.symbols (symbol_is t) 1 ≡ nat_lt t s.symbols
   fits_symbol t =

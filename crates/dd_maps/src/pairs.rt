@@ -17,7 +17,7 @@ use dd_formula::{Automaton, Formula, Rule, RuleFault};
 use dd_topology::{Sets, Topology};
 use std::alloc::{AllocError, Global};
 
-/// The automaton that marks with 1 the cells that break the rule or have a symbol that their node doesn't allow. It has a
+/// The automaton that marks with 1 the cells at which the rule is false or whose symbol their node doesn't allow. It has a
 /// single case: it gives 0 where the guarded formula is true, and else 1. The guarded formula is the conjunction of:
 /// - the rule's formula; and
 /// - for each node that doesn't allow every symbol, a guard: the cell isn't at this node, or has a symbol that the node
