@@ -1,6 +1,6 @@
 #!/usr/bin/env python3
-"""Writes several hundred scripts into a folder: for each two of 20 rules on the line and each two limits, whether the one's shift
-contains the other's."""
+"""Writes several hundred scripts into a folder: for each two of 20 rules on the line and for each pair of limits, whether the shift
+of the first contains that of the second."""
 import itertools
 import pathlib
 import sys

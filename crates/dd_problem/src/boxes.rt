@@ -19,9 +19,9 @@ use std::alloc::{AllocError, Global};
 
 /// The clauses that ask for an admissible filling of the box of this radius, with the goal at the origin. `radius` must be at
 /// least the goal's least radius, so that the box holds all that the goal reads at the origin. A bound on the number of
-/// clauses, `question_clauses` of `dd_boxes`, must be at most 2,000,000. The cells of the box are numbered from 0 in cell
-/// order. If the alphabet has `symbols` symbols, the variable `1 + k * symbols + s` says that the cell with the number `k` has
-/// the symbol `s`. The variables of the gates follow.
+/// clauses, `question_clauses` in the specs of `dd_boxes`, must be at most 2,000,000. The cells of the box are numbered from 0
+/// in cell order. If the alphabet has `symbols` symbols, the variable `1 + k * symbols + s` says that the cell with the number
+/// `k` has the symbol `s`. The variables of the gates follow.
 ///
 /// # Errors
 /// `AllocError` if memory ran out.

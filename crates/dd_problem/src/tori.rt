@@ -186,9 +186,9 @@ fn torus_inputs(
 /// The clauses that ask for a configuration of these periods and this shear that lives in the premise's subshift and has the
 /// goal at the origin. The periods along x, y and z must be at least 1; those of axes past the dimension must be 1. The shear
 /// must be less than the first period, and 0 in one dimension. The fundamental box must have at most 65,536 cells. A bound on
-/// the number of clauses, `question_clauses` of `dd_boxes`, must be at most 2,000,000. The cells of the fundamental box are
-/// numbered from 0 in cell order. If the alphabet has `symbols` symbols, the variable `1 + k * symbols + s` says that the cell
-/// with the number `k` has the symbol `s`. The variables of the gates follow.
+/// the number of clauses, `question_clauses` in the specs of `dd_boxes`, must be at most 2,000,000. The cells of the
+/// fundamental box are numbered from 0 in cell order. If the alphabet has `symbols` symbols, the variable
+/// `1 + k * symbols + s` says that the cell with the number `k` has the symbol `s`. The variables of the gates follow.
 ///
 /// # Errors
 /// `AllocError` if memory ran out.

@@ -45,7 +45,7 @@ fn program_of(alloc: Global, columns: u32, cap: i64, rows: &str) -> Result<Progr
             continue
         };
         if coefficients.len() != columns as usize || bound.num() < 0 {
-            return Err("too few coefficients, or a bound below 0".into());
+            return Err("wrong number of coefficients, or a bound below 0".into());
         }
         program.row(coefficients, bound)?;
     }
