@@ -1,6 +1,6 @@
 #!/usr/bin/env python3
-"""Writes several hundred scripts into a folder: for each two of 20 rules on the line and for each pair of limits, whether the shift
-of the first contains that of the second."""
+"""Writes several hundred scripts into a folder: for each ordered pair of 20 rules on the line, whether the subshift of one rule
+contains that of the other."""
 import itertools
 import pathlib
 import sys

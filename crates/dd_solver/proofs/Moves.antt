@@ -19,16 +19,8 @@ use Rattle.dd_solver.specs.declared.analysis.Backjump.{Backjump}
 use Rattle.dd_solver.specs.searching.{Analysis.is_rightly_learned, Analysis.Asserts, Deleting.MayDelete}
 use Rattle.dd_solver.specs.searching.Search.{State, all_known, after_step, known_through, known, IsSearch, AreAlive, AreOpen, GoesOn}
 use Rattle.dd_solver.proofs.Forcing.{all_falsified}
-use Rattle.dd_solver.proofs.Numbers.{Known, known_left, known_within, past_none, in_list, length-all, holds_of_clause, before-more, known_of-push, all_alive, after_push, length-after}
+use Rattle.dd_solver.proofs.Numbers.{Known, known_left, known_within, in_list, length-all, holds_of_clause, before-more, known_of-push, all_alive, after_push, length-after}
 use Rattle.dd_solver.proofs.Derived.{through_more, length-through, trail_after, hint_new, in_range_after, right_from, derived_more, refutes_last}
-
--- if `hint_finding` is `Open` for each number from 1 to the last one, it is `Open` for every number, because no other number has a clause
-pub all_open : (known : Known) (p : Literal → Bool) → ((r : ℕ) → 0 < r → r ≤ length known → hint_finding known p r ≡ Open) → (r : ℕ) → hint_finding known p r ≡ Open
-all_open known p h zero = refl
-all_open known p h (suc k) = elim (cases_lt (length known) (suc k)) [
-  | inl past ↦ ap (λ (o : Option (List Literal)). option_map_or (finding p) o Open) (past_none known (suc k) past)
-  | inr within ↦ h (suc k) (omega arith) within
-]
 
 module _ (n : ℕ) (cs : List (List Literal)) (steps : List Step) (trail : List Entry) (s : IsSearch (record { variables = n; clauses = cs; steps = steps; entries = trail })) where
   pub search_push : (e : Entry) → EntryOk n (known_through (all_known cs) steps) trail e → IsSearch (record { variables = n; clauses = cs; steps = steps; entries = trail ++ e ∷ [] })

@@ -84,14 +84,6 @@ length-after known (d ∷ ds) = length-after (without known d) ds ∙ one d
     one zero = refl
     one (suc d) = length-set known d
 
--- no clause has a number past the last one
-pub past_none : (known : Known) (h : ℕ) → length known < h → clause_of known h ≡ None
-past_none known h l = go (clause_of known h) refl
-  where
-    go : (o : Option (List Literal)) → clause_of known h ≡ o → clause_of known h ≡ None
-    go None e = e
-    go (Some x) e = let w = known_within known x h e in absurd (omega arith)
-
 -- ---- the clauses of a list, none of them deleted
 
 all_at : (cs : List (List Literal)) (k : ℕ) → at (all_known cs) k ≡ slice_get cs k

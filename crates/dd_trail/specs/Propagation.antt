@@ -1,5 +1,5 @@
 -- What unit propagation finds when it looks at clauses, and how it extends a trail.
-use Rattle.std.specs.Prelude.{◌≡◌, ℕ, ◌<◌, ◌≤◌, List, Option, length, take}
+use Rattle.std.specs.Prelude.{◌≡◌, ◌≢◌, ℕ, ◌<◌, ◌≤◌, List, Option, None, length, take, slice_index_or}
 use Rattle.dd_clause.specs.declared.clause.Literal.{Literal}
 use Rattle.dd_derivation.specs.declared.propagation.Finding.TheVariants.{Falsified, Forced, Open}
 use Rattle.dd_derivation.specs.Derivations.{hint_finding, is_among}
@@ -21,8 +21,10 @@ AreOpenBetween known falses from to = (r : ℕ) → from < r → r ≤ to → hi
 abbrev pub IsConflict : List (Option (List Literal)) → List Entry → ℕ → Type 0
 IsConflict known trail r = hint_finding known (is_among (falses trail)) r ≡ Falsified
 
--- The newer trail is right (see `IsTrail`), over the same variables, and begins with the entries of the older one.
+-- The newer trail is right (see `IsTrail`), over the same variables. It begins with the entries of the older one, and each entry after these has a
+-- reason, so it is forced.
 pub record Extends (known : List (Option (List Literal))) (older newer : EntryList) : Type 0 where
   pub variables : newer.variables ≡ older.variables
   pub kept : take (length older.entries) newer.entries ≡ older.entries
   pub trail : IsTrail newer.variables known newer.entries
+  pub forced : (k : ℕ) (d : Entry) → length older.entries ≤ k → k < length newer.entries → (slice_index_or newer.entries k d).reason ≢ None

@@ -285,7 +285,6 @@ impl Watches {
         self.literals.truncate(kept);
         self.numbers.truncate(kept);
         self.has_deleted = false;
-        self.at = 0;
         Ok(())
     }
 
@@ -301,7 +300,6 @@ impl Watches {
     pub fn cut(&mut self, length: usize, alive: &[bool]) -> Result<(), AllocError> {
         if length <= self.read {
             self.read = length;
-            self.at = 0;
         }
         if self.has_deleted {
             self.drop_deleted(alive)?;

@@ -21,23 +21,11 @@ use Rattle.dd_certificate.specs.declared.answer.Answer.TheVariants as answer
 
 -- ---- the configuration
 
--- the configuration that the code makes from the symbols
-pub torus_made : (x : LocalRule) (along : List ℕ) (d n : ℕ) (items symbols : List ℕ) → d ≡ x.dimension → n ≡ x.nodes → items ≡ symbols →
-    tile d (periods_of along 0) n items ≡ torus_tile x along symbols
-torus_made x along d n items symbols d_is n_is symbols_are =
-    ap (λ k. tile k (periods_of along 0) n items) d_is
-    ∙ (ap (λ k. tile x.dimension (periods_of along 0) k items) n_is ∙ ap (λ ss. tile x.dimension (periods_of along 0) x.nodes ss) symbols_are)
-
 abbrev pub IsOnTorus : LocalRule → List ℕ → List ℕ → Type 0
 IsOnTorus x along symbols = IsTile (torus_tile x along symbols) × Fits x (torus_tile x along symbols)
 
 pub fits_torus : (x : LocalRule) (along symbols : List ℕ) → All (λ s. s < x.symbols) symbols → Fits x (torus_tile x along symbols)
 fits_torus x along symbols below = record { dimension = refl; nodes = refl; symbols = below }
-
--- the configuration that the symbols give on the torus has few enough symbols for code to hold
-pub torus_small : (x : LocalRule) (along symbols : List ℕ) → AreTorusPeriods x.dimension x.nodes (periods_of along 0) → IsTile (torus_tile x along symbols) → IsPeriodic (torus_tile x along symbols)
-torus_small x along symbols torus is =
-    record { tile = is; small = (let full = is.full in let few = torus.few in omega (arith, full, few)) }
 
 pub on_torus_of : {x : LocalRule} {along ws : List ℕ} {w : ℕ} {symbols : List ℕ} → HasWeight x along ws w symbols → IsOnTorus x along symbols
 on_torus_of told = (told.lives.tile, told.lives.fits)
@@ -128,25 +116,6 @@ module _ (x : LocalRule) (along ws : List ℕ) (rule : IsRule x) (weighable : Is
     λ h. ((weight_fits, symbols_fit, (told.0 h).0), torus_least has (told.0 h).1),
     λ both. told.1 (both.0.2, bounded_of both.1),
   )
-
--- if the weight is 0, there is nothing to refute, and there must be no steps
-pub nothing_below : (x : LocalRule) (along ws : List ℕ) (w : ℕ) (steps : List Step) (b : Bool) → w ≡ 0 → (b ≡ true) ↔ (steps ≡ []) →
-    (b ≡ true) ↔ (IsWritableBelow w steps × IsBoundedBy x along ws w steps)
-nothing_below x along ws w steps b zero_is told = (
-  λ h. (inl (zero_is, told.0 h), λ some. absurd (omega (arith, some, zero_is))),
-  λ both. elim both.0 [
-    | inl none ↦ told.1 none.1
-    | inr some ↦ (let one = some.0 in absurd (omega (arith, one, zero_is)))
-  ],
-)
-
--- if the weight is not 0, the steps must be a refutation
-pub something_below : (x : LocalRule) (along ws : List ℕ) (w : ℕ) (steps : List Step) (b : Bool) → w ≢ 0 →
-    (b ≡ true) ↔ IsRefuting (weight_problem x (periods_of along 0) ws w) steps → (b ≡ true → IsWritableRefutation steps) →
-    (b ≡ true) ↔ (IsWritableBelow w steps × IsBoundedBy x along ws w steps)
-something_below x along ws w steps b some told fit =
-    let positive : 0 < w = omega (arith, some) in
-    (λ h. (inr (positive, fit h), λ more. told.0 h), λ both. told.1 (both.1 positive))
 
 pub none_decides : (x : LocalRule) (along ws : List ℕ) (steps : List Step) (b : Bool) → (b ≡ true) ↔ IsRefuting (weight_problem x (periods_of along 0) ws 0) steps →
     (b ≡ true → IsWritableRefutation steps) → (b ≡ true) ↔ (IsWritable (answer.Nothing steps) × IsTorusCertificate x along ws (answer.Nothing steps))

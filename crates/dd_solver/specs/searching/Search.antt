@@ -1,11 +1,11 @@
 -- The state of a search, and why it ends.
 use Rattle.std.specs.Prelude.{◌≡◌, ℕ, zero, suc, ◌<◌, ◌+◌, ◌-◌, ◌*◌, ◌^◌, ◌&&◌, ◌++◌, ◌∷◌, Bool, true, if◌then◌else◌, List, [], map, Option, Some, None, is_none, length, take, slice_index_or, MatchOption}
 use Rattle.dd_clause.specs.declared.clause.Literal.{Literal}
-use Rattle.dd_derivation.specs.declared.propagation.Finding.TheVariants.{Falsified, Forced, Open}
+use Rattle.dd_derivation.specs.declared.propagation.Finding.TheVariants.{Forced, Open}
 use Rattle.dd_derivation.specs.declared.step.Step.{Step}
 use Rattle.dd_derivation.specs.Derivations.{clause_of, hint_finding, is_among, known_after, is_right, refutes}
 use Rattle.dd_derivation.specs.checking.MarksOf.{known_to}
-use Rattle.dd_trail.specs.{declared.trail.Entry.Entry, Trails.falses, Reasons.AreInRange, Reasons.IsTrail}
+use Rattle.dd_trail.specs.{declared.trail.Entry.Entry, Trails.falses, Reasons.AreInRange, Reasons.IsTrail, Propagation.IsConflict}
 use Rattle.dd_solver.specs.declared.analysis.Backjump.{Backjump}
 
 -- the number of variables, the clauses, the steps learned so far, and the trail, which lists the true literals in the order in which they became true
@@ -56,7 +56,7 @@ AreOpen s = (r : ℕ) → hint_finding (known s) (is_among (falses s.entries)) r
 
 -- all literals of the clause with this number are false
 abbrev pub IsFalsified : State → ℕ → Type 0
-IsFalsified s r = hint_finding (known s) (is_among (falses s.entries)) r ≡ Falsified
+IsFalsified s r = IsConflict (known s) s.entries r
 
 -- the backjump's place is that of a decision; with only the entries before this place, the last step's clause forces the backjump's literal
 pub record IsForced (s : State) (backjump : Backjump) : Type 0 where

@@ -1,5 +1,5 @@
 -- What a clause forces, and how a trail grows.
-use Rattle.std.proofs.Common.{◌≡◌, ℕ, ◌<◌, ◌≤◌, Bool, true, false, List, [], ◌∷◌, ◌++◌, Option, Some, None, refl, ap, sym, ◌∙◌, subst, length, get_or, take, inl, inr, arith}
+use Rattle.std.proofs.Common.{◌≡◌, ◌≢◌, ℕ, ◌<◌, ◌≤◌, Bool, true, false, List, [], ◌∷◌, ◌++◌, Option, Some, None, refl, ap, sym, ◌∙◌, subst, length, get_or, take, inl, inr, arith}
 use Rattle.std.proofs.lemmas.Bool.{or_cases, cases_eq, false≢true, false_from_ne_true}
 use Rattle.std.proofs.lemmas.List.{take_all, take-append-le, length-append, length-take, get_or-take, get_or_append_left}
 use Rattle.std.proofs.lemmas.List.Elements.{All-head, All-tail}
@@ -80,24 +80,27 @@ apart n known trail ok j k d h l e =
 
 module _ (known : List (Option (List Literal))) where
   pub extends_same : (t : EntryList) → IsTrail t.variables known t.entries → Extends known t t
-  extends_same t ok = record { variables = refl; kept = take_all (length t.entries) t.entries (omega arith); trail = ok }
+  extends_same t ok = record {
+    variables = refl;
+    kept = take_all (length t.entries) t.entries (omega arith);
+    trail = ok;
+    forced = λ k d from within. absurd (omega arith);
+  }
 
   pub extends_longer : (older t : EntryList) → Extends known older t → length older.entries ≤ length t.entries
   extends_longer older t x = omega (arith, length-take (length older.entries) t.entries, ap length x.kept)
 
-  -- a trail extends an older one if it does so without its last entry, and its last entry is right
-  pub extends_push : (older t : EntryList) (e : Entry) → Extends known older t → EntryOk t.variables known t.entries e → Extends known older (record { variables = t.variables; entries = t.entries ++ e ∷ [] })
-  extends_push older t e x o =
+  -- a trail extends an older one if it does so without its last entry, and its last entry is right and has a reason
+  pub extends_push : (older t : EntryList) (e : Entry) → Extends known older t → EntryOk t.variables known t.entries e → e.reason ≢ None → Extends known older (record { variables = t.variables; entries = t.entries ++ e ∷ [] })
+  extends_push older t e x o r =
       let m : length older.entries ≤ length t.entries = extends_longer older t x in
       record {
         variables = x.variables;
         kept = take-append-le (length older.entries) t.entries (e ∷ []) m ∙ x.kept;
         trail = trail_push t.variables known t.entries e x.trail o;
+        forced = λ k d from within. elim (cases_eq k (length t.entries)) [
+          | inl q ↦ rw (q, get_or-append_seam t.entries e [] d) r
+          | inr u ↦ (let b : k < length t.entries = omega (arith, length-append t.entries (e ∷ [])) in
+              rw (get_or_append_left t.entries (e ∷ []) d k b) (x.forced k d from b))
+        ];
       }
-
-  pub extends_trans : (first second third : EntryList) → Extends known first second → Extends known second third → Extends known first third
-  extends_trans first second third a b = record {
-    variables = b.variables ∙ a.variables;
-    kept = sym (take_shorter third.entries (length first.entries) (length second.entries) (extends_longer first second a)) ∙ ap (λ (xs : List Entry). take (length first.entries) xs) b.kept ∙ a.kept;
-    trail = b.trail;
-  }

@@ -17,4 +17,4 @@ returns-in_ok-assign-in-Unit-clause-extends c =
     let old : EntryList = c.args.trail.now in
     let e : Entry = record { literal = c.in-Unit.literal; reason = Some c.in-Unit.number } in
     let o = entry_forced old.variables known old.entries c.in-Unit.number c.in-Unit.literal c.requires.in_range c.in-Unit.ensures in
-    rw (c.assign.ensures.variables, c.in_ok-assign-in-Unit.ensures.entries) (extends_push known old old e (extends_same known old c.requires.trail) o)
+    rw (c.assign.ensures.variables, c.in_ok-assign-in-Unit.ensures.entries) (extends_push known old old e (extends_same known old c.requires.trail) o (λ none. cc))
