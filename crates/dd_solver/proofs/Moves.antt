@@ -1,25 +1,26 @@
 -- Each move of the search keeps its invariant. A move adds an entry, cuts the trail, or adds a learned step. Propagation adds its entries in
 -- `dd_trail`. There, `Extends` says that the trail stays right.
-use Rattle.std.proofs.Common.{◌≡◌, ℕ, zero, suc, ◌+◌, ◌<◌, ◌≤◌, Bool, true, false, not, List, [], ◌∷◌, ◌++◌, Option, Some, None, refl, ap, sym, ◌∙◌, subst, length, get_or, take, inl, inr, arith}
-use Rattle.std.proofs.lemmas.Bool.{and_parts, cases_lt, false≢true, true_from_ne_false}
+use Rattle.std.proofs.Common.{◌≡◌, ℕ, suc, ◌+◌, ◌≤◌, Bool, true, false, not, List, [], ◌∷◌, ◌++◌, Option, Some, None, refl, ap, sym, ◌∙◌, subst, length, get_or, take, inl, inr, arith}
+use Rattle.std.proofs.lemmas.Bool.{and_parts, false≢true, true_from_ne_false}
 use Rattle.std.proofs.lemmas.List.{length-append, length-replicate, append-nil}
 use Rattle.std.proofs.lemmas.{Option.slice_get-get_or}
-use Rattle.std.specs.{Prelude.replicate, List.All, List.slice_get, Option.MatchOption, Option.option_map_or}
+use Rattle.std.specs.{Prelude.replicate, List.All, List.slice_get, Option.MatchOption}
 use Rattle.dd_clause.specs.declared.clause.Literal.{Literal}
 use Rattle.dd_clause.specs.Clauses.{IsLiteralInRange, IsClauseInRange, is_true_under, is_clause_true, Satisfies}
 use Rattle.dd_values.specs.Variables.{true_variables}
 use Rattle.dd_derivation.specs.declared.propagation.Finding.TheVariants.{Falsified, Open}
 use Rattle.dd_derivation.specs.declared.step.Step.{Step}
-use Rattle.dd_derivation.specs.Derivations.{is_among, has_variable, is_proper, is_conflict, hint_finding, finding, clause_of, clauses_before, are_deletable, known_after}
+use Rattle.dd_derivation.specs.Derivations.{is_among, has_variable, is_proper, is_conflict, finding, clause_of, clauses_before, are_deletable, known_after}
 use Rattle.dd_derivation.specs.{checking.MarksOf.known_of, lemmas.Soundness.all_false}
 use Rattle.dd_derivation.specs.lemmas.{Falses.same_variable, Findings.In, Numbers.length-before}
 use Rattle.dd_trail.specs.{declared.trail.Entry.Entry, Trails.falses, Reasons.EntryOk, lemmas.Trails.in-has_variable}
 use Rattle.dd_trail.specs.lemmas.Reasons.{all_in, at_clause, trail_push, trail_front}
+use Rattle.dd_trail.specs.Copies.{Copy, AreCopied, number_at}
 use Rattle.dd_solver.specs.declared.analysis.Backjump.{Backjump}
 use Rattle.dd_solver.specs.searching.{Analysis.is_rightly_learned, Analysis.Asserts, Deleting.MayDelete}
 use Rattle.dd_solver.specs.searching.Search.{State, all_known, after_step, known_through, known, IsSearch, AreAlive, AreOpen, GoesOn}
-use Rattle.dd_solver.proofs.Forcing.{all_falsified}
-use Rattle.dd_solver.proofs.Numbers.{Known, known_left, known_within, in_list, length-all, holds_of_clause, before-more, known_of-push, all_alive, after_push, length-after}
+use Rattle.dd_trail.specs.lemmas.Forcing.{all_falsified}
+use Rattle.dd_solver.proofs.Numbers.{Known, known_left, known_push, known_before, known_within, in_list, length-all, holds_of_clause, before-more, known_of-push, all_alive, after_push, length-after}
 use Rattle.dd_solver.proofs.Derived.{through_more, length-through, trail_after, hint_new, in_range_after, right_from, derived_more, refutes_last}
 
 module _ (n : ℕ) (cs : List (List Literal)) (steps : List Step) (trail : List Entry) (s : IsSearch (record { variables = n; clauses = cs; steps = steps; entries = trail })) where
@@ -54,6 +55,16 @@ module _ (n : ℕ) (cs : List (List Literal)) (steps : List Step) (trail : List 
         decided = e.decided;
         forces = rw (through_more (all_known cs) steps t) (hint_new (known_after before t.deletes) t.clause (is_among (falses (take u.place trail))) _ l ∙ e.forces);
       }
+
+-- what is copied stays so when a step deletes clauses and adds its own
+pub copied_after : (before : Known) (copy : Copy) (t : Step) → AreCopied before copy → AreCopied (after_step before t) copy
+copied_after before copy t a = record {
+  numbered = λ p. (let n = a.numbered p in omega (arith, n, length-append (known_after before t.deletes) (Some t.clause ∷ []), length-after before t.deletes));
+  clauses = λ p c lt e. elim (known_push (known_after before t.deletes) t.clause c (number_at copy.numbers p) e) [
+    | inl old ↦ a.clauses p c lt (known_before before c t.deletes (number_at copy.numbers p) old)
+    | inr new ↦ (let n = a.numbered p in absurd (omega (arith, n, new.0, length-after before t.deletes)))
+  ];
+}
 
 -- the invariant holds at the start
 pub search_first : (n : ℕ) (cs : List (List Literal)) → All (IsClauseInRange n) cs → IsSearch (record { variables = n; clauses = cs; steps = []; entries = [] })

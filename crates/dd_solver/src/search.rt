@@ -44,13 +44,14 @@ pub(crate) struct Search<'a> {
 
 impl<'a> Model for Search<'a> {
     ghost use Rattle.std.specs.Prelude.{◌≡◌, ◌+◌, ◌<◌, ◌^◌, length};
-    ghost use Rattle.dd_solver.specs.searching.Search.{State, IsSearch, AreAlive};
+    ghost use Rattle.dd_trail.specs.Copies.{AreCopied};
+    ghost use Rattle.dd_solver.specs.searching.Search.{State, IsSearch, AreAlive, known_through, all_known};
 
     ghost Value = { State };
 
     ghost view = { λ s. record { variables = s.trail.variables; clauses = s.clauses.now; steps = s.steps.items; entries = s.trail.entries } };
 
-    ghost invariant = { λ s. IsSearch (record { variables = s.trail.variables; clauses = s.clauses.now; steps = s.steps.items; entries = s.trail.entries }) × (length s.marked.items ≡ s.trail.variables) × (s.trail.variables < 2 ^ 32) × AreAlive s.clauses.now s.steps.items s.alive.items };
+    ghost invariant = { λ s. IsSearch (record { variables = s.trail.variables; clauses = s.clauses.now; steps = s.steps.items; entries = s.trail.entries }) × (length s.marked.items ≡ s.trail.variables) × (s.trail.variables < 2 ^ 32) × AreAlive s.clauses.now s.steps.items s.alive.items × AreCopied (known_through (all_known s.clauses.now) s.steps.items) s.watches };
 }
 
 /// Adds a step. Its clause is then alive, and the clauses that it deletes no longer are. If memory runs out, nothing changes.
@@ -86,15 +87,17 @@ impl<'a> Search<'a> {
         let variables = variables as usize;
         let mut watches = Watches::new(alloc, variables)?;
         let mut order = Order::new(alloc, variables, style)?;
-        for clause in clauses {
-            watches.add(clause.literals())?;
+        let alive = vec![in alloc; true; clauses.len()]?;
+        let database = Database::new(clauses, &[], alive.as_slice());
+        for (place, clause) in clauses.iter().enumerate() {
+            watches.add(alloc, &database, place as u64 + 1)?;
             order.count(clause.literals());
         }
         order.arrange();
         Ok(Search {
             clauses,
             steps: Vec::new(alloc),
-            alive: vec![in alloc; true; clauses.len()]?,
+            alive,
             trail: Trail::new(alloc, variables)?,
             watches,
             order,
@@ -156,7 +159,6 @@ impl<'a> Search<'a> {
             learned.hints.as_slice(),
         )?;
         let clause = Clause::from_literals(alloc, learned.literals.as_slice())?;
-        self.watches.add(learned.literals.as_slice())?;
         let hints = Items::from_slice(alloc, learned.hints.as_slice())?;
         let deletes = Items::from_vec(numbers);
         let step = Step {
@@ -166,7 +168,16 @@ impl<'a> Search<'a> {
         };
         self.watches.note_deleted(step.deletes.as_slice());
         push_step(&mut self.steps, &mut self.alive, step)?;
+        self.watch_last(alloc)?;
         Ok(learned.backjump)
+    }
+
+    /// Has the clause of the last step watch two of its literals.
+    fn watch_last(&mut self, alloc: Global) -> Result<(), AllocError>
+        ensures { self.new ≡ self.old }
+    {
+        let database = Database::new(self.clauses, self.steps.as_slice(), self.alive.as_slice());
+        self.watches.add(alloc, &database, database.count())
     }
 
     /// Removes the decision at the backjump's place and all entries after it. The last step's clause then forces the backjump's

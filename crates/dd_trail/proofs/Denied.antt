@@ -16,7 +16,7 @@ abbrev signed : ℕ → Bool → Literal
 signed v p = record { variable = v; positive = p }
 
 -- literals with the same code are equal
-same_code : (x y : Literal) → code x ≡ code y → x ≡ y
+pub same_code : (x y : Literal) → code x ≡ code y → x ≡ y
 same_code x y e = go x.positive y.positive refl refl e
   where
     go : (p q : Bool) → x.positive ≡ p → y.positive ≡ q → 2 * x.variable + cond p 1 0 ≡ 2 * y.variable + cond q 1 0 → x ≡ y

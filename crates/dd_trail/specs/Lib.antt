@@ -4,7 +4,9 @@ pub mod Trails
 pub mod Reasons
 -- what unit propagation finds when it looks at clauses, and how it extends a trail
 pub mod Propagation
+-- the copy of the clauses that propagation reads
+pub mod Copies
 -- lemmas on trails and on what a clause forces, with their proofs
 pub mod lemmas
--- the list in which a trail records which literals are false
+-- the list in which a trail records which literals are false, and how the copy of the clauses is made and read
 pub mod keeping

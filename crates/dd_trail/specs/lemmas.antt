@@ -1,2 +1,3 @@
 pub mod Trails
 pub mod Reasons
+pub mod Forcing

@@ -1,6 +1,6 @@
 //! The clauses that a search may use, by number. Those of the given list come first, and then the learned ones. Deleted clauses
 //! are left out, but keep their numbers.
-ghost use Rattle.std.specs.Prelude.{◌≡◌, ◌≤◌, ◌+◌, length};
+ghost use Rattle.std.specs.Prelude.{◌≡◌, ◌≤◌, ◌+◌, length, is_some};
 ghost use Rattle.std.specs.Option.{option_copied};
 ghost use Rattle.dd_derivation.specs.Derivations.{clause_of};
 ghost use Rattle.dd_derivation.specs.checking.MarksOf.{known_to};
@@ -53,5 +53,12 @@ impl<'a> Database<'a> {
         ensures { option_copied result ≡ clause_of self.now number }
     {
         self.known.find_clause(number)
+    }
+
+    /// Whether there is a clause with this number and it is alive.
+    pub(crate) fn has_clause(&self, number: u64) -> bool
+        ensures { result ≡ is_some (clause_of self.now number) }
+    {
+        self.find_clause(number).is_some()
     }
 }

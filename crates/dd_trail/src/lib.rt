@@ -9,6 +9,7 @@
 //! decided next.
 #![tactic(auto)]
 
+mod copies;
 mod database;
 mod order;
 mod propagation;

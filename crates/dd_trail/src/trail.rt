@@ -5,7 +5,8 @@
 //! without a value, what they return means nothing. No contract depends on what they return. No invariant says that each
 //! variable has a spot (see `Spot`), or that its place is on the trail. So the code tests both. For variables that have a
 //! value, the tests never fail.
-ghost use Rattle.std.specs.Prelude.{◌≡◌, ℕ, ◌+◌, ◌<◌, ◌≤◌, ◌^◌, ◌++◌, ◌∷◌, [], true, false, length, take, slice_set, ◌-◌, IfOk, OnOk, OnErr, MatchOption, IsTrue, ◌↔◌};
+ghost use Rattle.std.specs.Prelude.{◌≡◌, ℕ, ◌+◌, ◌<◌, ◌≤◌, ◌^◌, ◌++◌, ◌∷◌, [], true, false, length, take, slice_set, slice_index_or, ◌-◌, IfOk, OnOk, OnErr, MatchOption, IsTrue, ◌↔◌};
+ghost use Rattle.dd_clause.specs.declared.clause.Literal.{Literal};
 ghost use Rattle.dd_clause.specs.Clauses.{IsLiteralInRange};
 ghost use Rattle.dd_values.specs.Variables.{true_variables};
 ghost use Rattle.dd_derivation.specs.Derivations.{is_among, has_variable};
@@ -231,7 +232,9 @@ impl Trail {
     }
 
     /// For each literal, at the index of its code, whether it is false.
-    pub(crate) fn denied(&self) -> &[bool] {
+    pub(crate) fn denied(&self) -> &[bool]
+        ensures { (l : Literal) → slice_index_or result.now (code l) false ≡ is_among (falses self.now.entries) l }
+    {
         self.denied.as_slice()
     }
 

@@ -1,63 +1,31 @@
 //! The watched literals (Moskewicz, Madigan, Zhao, Zhang and Malik 2001). Each clause with at least two literals watches two of
 //! them, and need not be looked at while neither of these two is false. So when a literal becomes false, only the clauses that
-//! watch it are looked at. When the search goes back, no watch has to be undone. The watches only suggest clauses. For each
-//! suggested clause, `follow` tests whether it is falsified or forces a literal, and makes a forced literal true. So no
-//! contract depends on the watches: a clause that they miss only costs time. No invariant says that the places kept here are
-//! within their lists. So the code tests these places. The tests never fail.
+//! watch it are looked at. When the search goes back, no watch has to be undone. No contract depends on which literals a clause
+//! watches: a clause that is missed only costs time. What matters is that the copy of the clauses (see `copies`) has all their
+//! literals: then a clause whose places hold only false literals is falsified, and one with a single place that does not hold a
+//! false literal forces a literal, or has a true one. No invariant says that the places that watchers name are within the copy,
+//! or are those of one clause. So the code tests both. The tests never fail.
 //!
 //! Each literal has a list of watchers. A watcher names a clause that watches the literal, and another literal of this clause.
 //! An entry of the trail makes the negation of its literal false. To read the entry is to pass the watchers of this negation,
 //! one after the other. To pass a watcher is to look for a literal that its clause can watch instead of the false one. This is
 //! not needed if the watcher's other literal is true, or if the other literal that the clause watches is true. A passed watcher
 //! stays in the list, or moves to the list of the literal that its clause now watches.
-ghost use Rattle.std.specs.Prelude.{◌<◌, ◌^◌, length, IfOk, MatchOption, ⊤};
+ghost use Rattle.std.specs.Prelude.{◌≡◌, ◌<◌, ◌≤◌, ◌^◌, List, Option, length, IfOk, IfSome, MatchOption, ⊤};
+ghost use Rattle.dd_clause.specs.declared.clause.Literal.{Literal};
 ghost use Rattle.dd_trail.specs.Trails.{falses, IsFull};
 ghost use Rattle.dd_trail.specs.Reasons.{AreInRange, IsTrail};
 ghost use Rattle.dd_trail.specs.Propagation.{AreOpenBetween, IsConflict, Extends};
+ghost use Rattle.dd_trail.specs.Copies.{AreCopied, IsOrdered};
+ghost use Rattle.dd_trail.specs.keeping.Copying.{AreDenied, IsStop, StopsAt, FindsStop};
 
+use crate::copies::{Code, END, Stop, copy_clause, keep_alive, look_at_stop};
 use crate::database::Database;
 use crate::propagation::{Scan, follow, scan_between};
-use crate::trail::{Trail, code_of};
-use dd_clause::Literal;
+use crate::trail::{Entry, Trail};
 use std::alloc::{AllocError, Global};
+use std::marker::Model;
 use std::mem;
-
-/// A literal's code (see `code_of`), in four bytes. It always fits, as a clause list has at most 2^24 variables.
-#[derive(Clone, Copy, PartialEq, Eq)]
-struct Code {
-    index: u32,
-}
-
-impl Code {
-    fn new(literal: Literal) -> Code {
-        Code {
-            index: u32::try_from(code_of(literal)).unwrap_or(0),
-        }
-    }
-
-    fn negation(self) -> Code {
-        Code {
-            index: self.index ^ 1,
-        }
-    }
-
-    fn index(self) -> usize {
-        self.index as usize
-    }
-
-    /// Whether the literal is false. `denied` says this of each literal, at the index of its code.
-    fn is_false(self, denied: &[bool]) -> bool {
-        let index = self.index();
-        index < denied.len() && denied[index]
-    }
-
-    fn is_true(self, denied: &[bool]) -> bool {
-        self.negation().is_false(denied)
-    }
-}
-
-/// The end mark that follows the literals of each clause. No literal has this code, and it is never false.
-const END: Code = Code { index: 0 };
 
 /// A clause that watches a literal.
 #[derive(Clone, Copy)]
@@ -75,13 +43,11 @@ pub struct Watches {
     lists: Vec<Vec<Watcher>>,
     /// One of `lists`, taken out while its watchers are passed. Otherwise empty.
     passed: Vec<Watcher>,
-    /// The literals of all clauses, one clause after the other. In each clause the watched literals come first, and an end mark
-    /// comes last.
+    /// The copy's places: the literals of all clauses, one clause after the other. In each clause the watched literals come
+    /// first, and an end mark comes last.
     literals: Vec<Code>,
     /// For each place of `literals`, the number of the clause there.
     numbers: Vec<u32>,
-    /// How many clauses have been added, including those deleted since.
-    count: u32,
     /// How many entries of the trail have been read.
     read: usize,
     /// The place of the next watcher to be passed, in the list of the literal that the entry at the place `read` makes false.
@@ -94,14 +60,14 @@ pub struct Watches {
 
 /// What a look at a clause finds after one of its watched literals became false.
 #[derive(Clone, Copy)]
-enum Look {
+pub(crate) enum Look {
     /// The clause keeps watching the literal that became false. The other literal that it watches, given here, is true.
     Stays(Code),
     /// The clause now watches the first of these literals instead. The second is the other literal that it watches.
     Moves(Code, Code),
     /// All literals of the clause are false, except perhaps the other one that it watches. That one is not true: it is false or
-    /// has no value.
-    AllFalse,
+    /// has no value. The clause's end mark stands at this place.
+    AllFalse(usize),
 }
 
 /// Adds a watcher to the list of a literal.
@@ -115,7 +81,7 @@ fn watch(lists: &mut Vec<Vec<Watcher>>, literal: Code, watcher: Watcher) -> Resu
 
 /// The first place, from `from` on, with a literal that is not false, or with an end mark.
 fn find_not_false(denied: &[bool], literals: &[Code], from: usize) -> Option<usize>
-    ensures { MatchOption result ⊤ (λ place. place < length literals.now) }
+    ensures { MatchOption result ⊤ (λ place. (from ≤ place) × (place < length literals.now) × AreDenied denied.now literals.now from place) }
 {
     for place in from..literals.len() {
         if !literals[place].is_false(denied) {
@@ -127,44 +93,62 @@ fn find_not_false(denied: &[bool], literals: &[Code], from: usize) -> Option<usi
 
 /// Looks in the clause for a literal to watch instead of the one that became false, unless the other literal that it watches is
 /// true. `clause` is the place of the clause's first literal.
-fn rewatch(denied: &[bool], literals: &mut [Code], clause: u32, became_false: Code) -> Look {
+fn rewatch(
+    denied: &[bool],
+    numbers: &[u32],
+    literals: &mut [Code],
+    clause: u32,
+    became_false: Code,
+) -> Look
+    requires { IsOrdered numbers.now literals.old }
+    ensures ordered { IsOrdered numbers.now literals.new }
+    ensures copied { (known : List (Option (List Literal))) → AreCopied known (record { numbers = numbers.now; codes = literals.old }) → AreCopied known (record { numbers = numbers.now; codes = literals.new }) }
+    ensures all_false { FindsStop denied.now literals.new clause result }
+{
     let first = clause as usize;
     let second = first + 1;
     if second >= literals.len() {
         return Look::Stays(became_false);
     }
-    let other = if literals[first] == became_false {
-        literals[second]
+    let (watched, other) = if literals[first] == became_false {
+        (first, literals[second])
     } else {
-        literals[first]
+        (second, literals[first])
     };
     if other.is_true(denied) {
         return Look::Stays(other);
     }
-    match find_not_false(denied, literals, second + 1) {
-        Some(place) if literals[place] != END => {
-            let next = literals[place];
-            literals[first] = other;
-            literals[second] = next;
-            literals[place] = became_false;
-            Look::Moves(next, other)
-        }
-        _ => Look::AllFalse,
+    let Some(place) = find_not_false(denied, literals, second + 1) else {
+        return Look::Stays(other);
+    };
+    let next = literals[place];
+    if next == END {
+        return Look::AllFalse(place);
     }
+    // The places are always of the same clause.
+    if numbers[watched] == numbers[place] {
+        literals.swap(watched, place);
+    }
+    Look::Moves(next, other)
 }
 
 /// Passes the watchers of a literal that became false, from the one at `from` on. They are in the list `passed`. If a clause
 /// now watches another literal instead, its watcher moves to that literal's list, and the last watcher in `passed` takes its
-/// place. Stops at a clause that may be falsified or force a literal, and returns the place of its watcher. Returns `None` if
-/// there is no such clause.
+/// place. Stops at a clause that may be falsified or force a literal. Returns `None` if there is no such clause.
 fn pass_from(
     denied: &[bool],
+    numbers: &[u32],
     literals: &mut [Code],
     lists: &mut Vec<Vec<Watcher>>,
     passed: &mut Vec<Watcher>,
     became_false: Code,
     from: usize,
-) -> Result<Option<usize>, AllocError> {
+) -> Result<Option<Stop>, AllocError>
+    requires { IsOrdered numbers.now literals.old }
+    ensures ordered { IsOrdered numbers.now literals.new }
+    ensures copied { (known : List (Option (List Literal))) → AreCopied known (record { numbers = numbers.now; codes = literals.old }) → AreCopied known (record { numbers = numbers.now; codes = literals.new }) }
+    ensures stop { IfOk result (λ found. IfSome found (λ s. StopsAt denied.now literals.new s.first s.end)) }
+{
     let mut at = from;
     while at < passed.len() {
         let watcher = passed[at];
@@ -173,7 +157,7 @@ fn pass_from(
             at += 1;
             continue;
         }
-        match rewatch(denied, literals, clause, became_false) {
+        match rewatch(denied, numbers, literals, clause, became_false) {
             Look::Stays(other) => {
                 passed[at] = Watcher { clause, other };
                 at += 1;
@@ -182,22 +166,30 @@ fn pass_from(
                 passed.swap_remove(at);
                 watch(lists, next, Watcher { clause, other })?;
             }
-            Look::AllFalse => return Ok(Some(at)),
+            Look::AllFalse(end) => {
+                let first = clause as usize;
+                return Ok(Some(Stop { at, first, end }));
+            }
         }
     }
     Ok(None)
 }
 
-/// Whether the clause with this number is alive, that is, not deleted.
-fn is_alive(alive: &[bool], number: u32) -> bool {
-    let number = number as usize;
-    number >= 1 && number <= alive.len() && alive[number - 1]
+impl Model for Watches {
+    ghost use Rattle.dd_trail.specs.Copies.{Copy, IsOrdered};
+
+    ghost Value = { Copy };
+
+    ghost view = { λ w. record { numbers = w.numbers.items; codes = w.literals.items } };
+
+    ghost invariant = { λ w. IsOrdered w.numbers.items w.literals.items };
 }
 
 impl Watches {
     /// The watches for this many variables, without any clauses.
     pub fn new(alloc: Global, variables: usize) -> Result<Watches, AllocError>
         requires { variables < 2 ^ 32 }
+        ensures copied { IfOk result (λ watches. (known : List (Option (List Literal))) → AreCopied known watches) }
     {
         let mut lists: Vec<Vec<Watcher>> = Vec::new(alloc);
         for _ in 0..2 * variables + 2 {
@@ -208,7 +200,6 @@ impl Watches {
             passed: Vec::new(alloc),
             literals: Vec::new(alloc),
             numbers: Vec::new(alloc),
-            count: 0,
             read: 0,
             at: 0,
             scanned: 0,
@@ -216,23 +207,28 @@ impl Watches {
         })
     }
 
-    /// Adds the clause with the next number, from 1 on. It watches its first two literals, if it has at least two.
-    pub fn add(&mut self, literals: &[Literal]) -> Result<(), AllocError> {
+    /// Adds the clause with this number, if the database has one. It watches its first two literals, if it has at least two.
+    /// Clauses have to be added in the order of their numbers.
+    pub fn add(&mut self, alloc: Global, database: &Database, number: u64) -> Result<(), AllocError>
+        ensures copied { AreCopied database.now self.old → AreCopied database.now self.new }
+    {
         let start = self.literals.len();
-        self.count = self.count.saturating_add(1);
-        for literal in literals {
-            self.literals.push(Code::new(*literal))?;
-            self.numbers.push(self.count)?;
-        }
-        self.literals.push(END)?;
-        self.numbers.push(self.count)?;
+        copy_clause(
+            alloc,
+            &mut self.numbers,
+            &mut self.literals,
+            database,
+            number,
+        )?;
         let end = self.literals.len();
         self.watch_first(start, end)
     }
 
     /// Makes a clause watch its first two literals, if it has at least two. The clause's literals and its end mark stand at the
     /// places from `start` up to, but not including, `end`.
-    fn watch_first(&mut self, start: usize, end: usize) -> Result<(), AllocError> {
+    fn watch_first(&mut self, start: usize, end: usize) -> Result<(), AllocError>
+        ensures { self.new ≡ self.old }
+    {
         let clause = u32::try_from(start).unwrap_or(0);
         if end <= self.literals.len() && start < end && end - start > 2 {
             let first = self.literals[start];
@@ -245,51 +241,37 @@ impl Watches {
         Ok(())
     }
 
-    /// The literal at a place, and the number of its clause. `None` if there is no such place.
-    fn literal_at(&self, place: usize) -> Option<(Code, u32)> {
-        if place < self.literals.len() && place < self.numbers.len() {
-            return Some((self.literals[place], self.numbers[place]));
-        }
-        None
-    }
-
-    /// Writes a literal and the number of its clause at a place.
-    fn put(&mut self, place: usize, literal: Code, number: u32) {
-        if place < self.literals.len() && place < self.numbers.len() {
-            self.literals[place] = literal;
-            self.numbers[place] = number;
-        }
-    }
-
     /// Drops the clauses that are not alive: their literals and their watchers. The other clauses keep watching their first two
     /// literals.
-    fn drop_deleted(&mut self, alive: &[bool]) -> Result<(), AllocError> {
+    fn drop_deleted(&mut self, alive: &[bool]) -> Result<(), AllocError>
+        ensures { (known : List (Option (List Literal))) → AreCopied known self.old → AreCopied known self.new }
+    {
         for list in self.lists.iter_mut() {
             list.clear();
         }
+        keep_alive(&mut self.numbers, &mut self.literals, alive);
+        self.has_deleted = false;
+        self.watch_all()
+    }
+
+    /// Makes each clause watch its first two literals, if it has at least two.
+    fn watch_all(&mut self) -> Result<(), AllocError>
+        ensures { self.new ≡ self.old }
+    {
         let mut start = 0usize;
-        let mut kept = 0usize;
         for place in 0..self.literals.len() {
-            let Some((literal, number)) = self.literal_at(place) else {
-                break;
-            };
-            if is_alive(alive, number) {
-                self.put(kept, literal, number);
-                kept = kept.saturating_add(1);
-                if literal == END {
-                    self.watch_first(start, kept)?;
-                    start = kept;
-                }
+            if self.literals[place] == END {
+                self.watch_first(start, place + 1)?;
+                start = place + 1;
             }
         }
-        self.literals.truncate(kept);
-        self.numbers.truncate(kept);
-        self.has_deleted = false;
         Ok(())
     }
 
     /// Notes that the clauses with these numbers, if any, are deleted. The next call of `cut` drops them.
-    pub fn note_deleted(&mut self, numbers: &[u64]) {
+    pub fn note_deleted(&mut self, numbers: &[u64])
+        ensures { self.new ≡ self.old }
+    {
         if !numbers.is_empty() {
             self.has_deleted = true;
         }
@@ -297,7 +279,9 @@ impl Watches {
 
     /// Notes that the trail is cut to this length, and drops the deleted clauses. The clause with number k is alive exactly
     /// when `alive[k - 1]` is true. `alive` must have a value for each clause that was added.
-    pub fn cut(&mut self, length: usize, alive: &[bool]) -> Result<(), AllocError> {
+    pub fn cut(&mut self, length: usize, alive: &[bool]) -> Result<(), AllocError>
+        ensures { (known : List (Option (List Literal))) → AreCopied known self.old → AreCopied known self.new }
+    {
         if length <= self.read {
             self.read = length;
         }
@@ -307,17 +291,10 @@ impl Watches {
         Ok(())
     }
 
-    /// The number of the clause whose first literal is at this place.
-    fn number(&self, clause: u32) -> u64 {
-        let clause = clause as usize;
-        if clause < self.numbers.len() {
-            return u64::from(self.numbers[clause]);
-        }
-        0
-    }
-
     /// Exchanges a literal's list with `passed`: takes the list out, so that its watchers are passed, or puts it back.
-    fn exchange(&mut self, literal: Code) {
+    fn exchange(&mut self, literal: Code)
+        ensures { self.new ≡ self.old }
+    {
         let list = literal.index();
         if list < self.lists.len() {
             mem::swap(&mut self.lists[list], &mut self.passed);
@@ -325,14 +302,17 @@ impl Watches {
     }
 
     /// Passes the watchers of a literal that became false, from the first that hasn't been passed yet. Stops at a clause that
-    /// may be falsified or force a literal, and returns the place of the clause's first literal. Returns `None` if there is no
-    /// such clause.
-    fn pass(&mut self, trail: &Trail, became_false: Code) -> Result<Option<u32>, AllocError> {
+    /// may be falsified or force a literal. Returns `None` if there is no such clause.
+    fn pass(&mut self, trail: &Trail, became_false: Code) -> Result<Option<Stop>, AllocError>
+        ensures copied { (known : List (Option (List Literal))) → AreCopied known self.old → AreCopied known self.new }
+        ensures stop { IfOk result (λ found. IfSome found (λ s. IsStop (falses trail.now.entries) self.new.codes s.first s.end)) }
+    {
         if self.at == 0 {
             self.exchange(became_false);
         }
         let found = pass_from(
             trail.denied(),
+            self.numbers.as_slice(),
             self.literals.as_mut_slice(),
             &mut self.lists,
             &mut self.passed,
@@ -340,24 +320,21 @@ impl Watches {
             self.at,
         )?;
         match found {
-            Some(at) if at < self.passed.len() => {
-                self.at = at.saturating_add(1);
-                Ok(Some(self.passed[at].clause))
-            }
-            _ => {
-                self.exchange(became_false);
-                Ok(None)
-            }
+            Some(stop) => self.at = stop.at.saturating_add(1),
+            None => self.exchange(became_false),
         }
+        Ok(found)
     }
 
-    /// Reads the entries of the trail that have not been read yet. Makes each literal true that a suggested clause forces, and
+    /// Reads the entries of the trail that have not been read yet. Makes each literal true that a clause at a stop forces, and
     /// reads the literal's entry too. Stops at a falsified clause, and returns its number. Returns `None` if it finds no
     /// falsified clause.
     fn read(&mut self, database: &Database, trail: &mut Trail) -> Result<Option<u64>, AllocError>
         requires in_range { AreInRange trail.old.variables database.now }
         requires trail { IsTrail trail.old.variables database.now trail.old.entries }
+        requires copied { AreCopied database.now self.old }
         ensures extends { Extends database.now trail.old trail.new }
+        ensures copied { AreCopied database.now self.new }
         ensures conflict { IfOk result (λ conflict. MatchOption conflict ⊤ (IsConflict database.now trail.new.entries)) }
     {
         // The loop ends long before its bound. A `loop` would need a proof that it ends, and nothing is proved about the places.
@@ -368,18 +345,29 @@ impl Watches {
                 break;
             }
             let became_false = Code::new(entries[read].literal).negation();
-            match self.pass(trail, became_false)? {
-                None => {
-                    self.read = read.saturating_add(1);
+            let Some(stop) = self.pass(trail, became_false)? else {
+                self.read = read.saturating_add(1);
+                self.at = 0;
+                continue;
+            };
+            let scan = look_at_stop(
+                self.numbers.as_slice(),
+                self.literals.as_slice(),
+                database,
+                trail,
+                stop,
+            );
+            match scan {
+                Scan::Conflict(number) => {
+                    self.exchange(became_false);
                     self.at = 0;
+                    return Ok(Some(number));
                 }
-                Some(clause) => {
-                    if let Some(number) = follow(database, trail, self.number(clause))? {
-                        self.exchange(became_false);
-                        self.at = 0;
-                        return Ok(Some(number));
-                    }
+                Scan::Unit(number, literal) => {
+                    let reason = Some(number);
+                    trail.assign(Entry { literal, reason })?;
                 }
+                Scan::Nothing => {}
             }
         }
         Ok(None)
@@ -397,7 +385,9 @@ impl Watches {
     ) -> Result<Option<u64>, AllocError>
         requires in_range { AreInRange trail.old.variables database.now }
         requires trail { IsTrail trail.old.variables database.now trail.old.entries }
+        requires copied { AreCopied database.now self.old }
         ensures extends { Extends database.now trail.old trail.new }
+        ensures copied { AreCopied database.now self.new }
         ensures conflict { IfOk result (λ conflict. MatchOption conflict (IsFull trail.new.variables trail.new.entries → AreOpenBetween database.now (falses trail.new.entries) 0 (length database.now)) (IsConflict database.now trail.new.entries)) }
     {
         if let Some(number) = self.read(database, trail)? {

@@ -26,7 +26,7 @@ assign-requires-clause-fresh c =
 pub invariant_of-self-in_err-assign : goal.invariant_of-self-in_err-assign
 invariant_of-self-in_err-assign c =
     let i = c.self.inside in
-    rw (c.assign.ensures.variables, c.undo.ensures.variables, c.in_err-assign.ensures.failed, c.undo.ensures.entries) (search_front i.trail.variables i.clauses.now i.steps.items i.trail.entries c.self.invariant.0 c.args.backjump.place, c.self.invariant.1, c.self.invariant.2, c.self.invariant.3)
+    rw (c.assign.ensures.variables, c.undo.ensures.variables, c.in_err-assign.ensures.failed, c.undo.ensures.entries) (search_front i.trail.variables i.clauses.now i.steps.items i.trail.entries c.self.invariant.0 c.args.backjump.place, c.self.invariant.1, c.self.invariant.2, c.self.invariant.3, c.cut.ensures (known_through (all_known i.clauses.now) i.steps.items) c.self.invariant.4)
 
 pub invariant_of-self-2 : goal.invariant_of-self-2
 invariant_of-self-2 c =
@@ -39,7 +39,7 @@ invariant_of-self-2 c =
     let f : IsForced (record { variables = n; clauses = i.clauses.now; steps = i.steps.items; entries = i.trail.entries }) c.args.backjump = subst (λ (s : State). IsForced s c.args.backjump) (sym c.self.view_is) c.requires in
     let number : length i.clauses.now + c.len.result ≡ last = omega (arith, i.steps.ok.0) in
     let o = entry_forced n now front last c.args.backjump.literal c.self.invariant.0.in_range f.forces in
-    rw (c.assign.ensures.variables, c.undo.ensures.variables, c.in_ok-assign.ensures.entries, c.undo.ensures.entries, number) (search_push n i.clauses.now i.steps.items front (search_front n i.clauses.now i.steps.items i.trail.entries c.self.invariant.0 c.args.backjump.place) e o, c.self.invariant.1, c.self.invariant.2, c.self.invariant.3)
+    rw (c.assign.ensures.variables, c.undo.ensures.variables, c.in_ok-assign.ensures.entries, c.undo.ensures.entries, number) (search_push n i.clauses.now i.steps.items front (search_front n i.clauses.now i.steps.items i.trail.entries c.self.invariant.0 c.args.backjump.place) e o, c.self.invariant.1, c.self.invariant.2, c.self.invariant.3, c.cut.ensures (known_through (all_known i.clauses.now) i.steps.items) c.self.invariant.4)
 
 pub returns-clause-left : goal.returns-clause-left
 unfolding none

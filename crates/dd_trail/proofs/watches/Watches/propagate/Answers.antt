@@ -11,6 +11,6 @@ returns-in-Unit-clause-conflict c =
     let t = c.loop-place.trail in
     let l = c.in-Unit.field-1 in
     let h : hint_finding known (is_among (falses t.entries)) c.in-Unit.field-0 ≡ Forced l = c.in-Unit.ensures in
-    let within : AreInRange t.variables known = rw c.loop-place.invariant.variables c.requires.in_range in
+    let within : AreInRange t.variables known = rw c.loop-place.invariant.0.variables c.requires.in_range in
     let i = forced_in_range known t.variables (is_among (falses t.entries)) c.in-Unit.field-0 l within h in
     λ full _ _ _. absurd (false≢true (sym (forced_new known (falses t.entries) c.in-Unit.field-0 l h) ∙ full l.variable i.0 i.1))
