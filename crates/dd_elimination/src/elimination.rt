@@ -4,8 +4,8 @@
 //! another clause makes redundant is dropped (Eén and Biere 2005). Each new clause is the clause of a step. The step's hints
 //! are the numbers of the two clauses that the new clause comes from. (See the file `resolution.rt` for resolvents.)
 //!
-//! No contract depends on what is done here, since the answer for the whole list is checked. No invariant says that the indices
-//! kept here are within their lists. So the code tests them. The tests never fail.
+//! No contract depends on what is done here, since the steps, the remaining clauses and the assignment for the whole list are
+//! checked. No invariant says that the indices kept here are within their lists. So the code tests them. The tests never fail.
 use crate::resolution::{Relation, distinct, relate, resolvent, resolvent_length, without};
 use dd_clause::{Clause, Cnf, Literal};
 use dd_derivation::Step;
@@ -73,7 +73,7 @@ struct Sides {
 pub(crate) struct Elimination {
     variables: u32,
     /// How many clauses the list had.
-    pub count: u64,
+    count: u64,
     pub entries: Vec<Entry>,
     /// For each variable, by its number, the indices of the entries that have it or its negation. Some may not be alive.
     occurrences: Vec<Vec<usize>>,

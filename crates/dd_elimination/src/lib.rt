@@ -7,12 +7,14 @@
 //! is an assignment that satisfies it, or a refutation: a list of steps. Each step has a clause that follows from clauses
 //! before it, and hints: the numbers of the clauses that show this. First the clauses of the list are numbered, from 1, and
 //! then the steps. The last step's clause is empty. A step may also delete clauses, which no later step may use. The search
-//! gives an answer for the reduced list. An answer for the whole list is made from it and checked.
+//! gives an answer for the reduced list. An answer for the whole list is made from it. This answer is checked, or the
+//! elimination is.
 #![tactic(auto, using(std::proofs::lemmas::Grind::common_steps))]
 
 mod elimination;
 mod fixed;
 mod propagation;
+mod reduction;
 mod resolution;
 mod search;
 mod whole;

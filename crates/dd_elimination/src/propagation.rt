@@ -2,8 +2,11 @@
 //! clause but one have become false, the clause forces the remaining one: it makes this literal true, and so fixes the value of
 //! its variable.
 //!
-//! No contract depends on what is done here, and no invariant says that the indices kept here are within their lists. So the
-//! code tests them. The tests never fail.
+//! No contract depends on the propagation, and no invariant says that the indices kept here are within their lists. So the code
+//! tests them. The tests never fail.
+ghost use Rattle.std.specs.Prelude.{◌≡◌};
+ghost use Rattle.dd_elimination.specs.Stamps as stamps_of;
+
 use dd_clause::{Clause, Cnf, Literal};
 use std::alloc::{AllocError, Global};
 
@@ -43,7 +46,9 @@ struct Propagation<'a> {
 }
 
 /// The code of a literal: its index in a list that has an item for each literal.
-pub(crate) fn code_of(literal: Literal) -> usize {
+pub(crate) fn code_of(literal: Literal) -> usize
+    ensures { result ≡ stamps_of.code_of literal }
+{
     let even = 2 * literal.variable as usize;
     if literal.positive { even + 1 } else { even }
 }

@@ -18,9 +18,11 @@ use Rattle.dd_trail.specs.lemmas.Reasons.{all_in, at_clause, trail_push, trail_f
 use Rattle.dd_solver.specs.declared.analysis.Backjump.{Backjump}
 use Rattle.dd_solver.specs.searching.{Analysis.is_rightly_learned, Analysis.Asserts, Deleting.MayDelete}
 use Rattle.dd_solver.specs.searching.Search.{State, all_known, after_step, known_through, known, IsSearch, AreAlive, AreOpen, GoesOn}
-use Rattle.dd_solver.proofs.Forcing.{all_falsified}
-use Rattle.dd_solver.proofs.Numbers.{Known, known_left, known_within, past_none, in_list, length-all, holds_of_clause, before-more, known_of-push, all_alive, after_push, length-after}
-use Rattle.dd_solver.proofs.Derived.{through_more, length-through, trail_after, hint_new, in_range_after, right_from, derived_more, refutes_last}
+use Rattle.dd_solver.specs.lemmas.Forcing.{all_falsified}
+use Rattle.dd_solver.specs.lemmas.Known.{Known, known_left, known_within, length-all, before-more, all_alive, length-after}
+use Rattle.dd_solver.specs.lemmas.Steps.{through_more, length-through, derived_more}
+use Rattle.dd_solver.proofs.Numbers.{past_none, in_list, holds_of_clause, known_of-push, after_push}
+use Rattle.dd_solver.proofs.Derived.{trail_after, hint_new, in_range_after, right_from, refutes_last}
 
 -- if `hint_finding` is `Open` for each number from 1 to the last one, it is `Open` for every number, because no other number has a clause
 pub all_open : (known : Known) (p : Literal → Bool) → ((r : ℕ) → 0 < r → r ≤ length known → hint_finding known p r ≡ Open) → (r : ℕ) → hint_finding known p r ≡ Open
@@ -75,7 +77,7 @@ search_first n cs a = record {
 pub alive_first : (cs : List (List Literal)) (alive : List Bool) → alive ≡ replicate (length cs) true → AreAlive cs [] alive
 alive_first cs alive e = record {
   as_many = omega (arith, ap length e, length-replicate (length cs) true);
-  same = rw (append-nil cs, e) (all_alive cs);
+  same = rw (append-nil cs, e) (all_alive cs (length cs) (omega arith));
 }
 
 -- `alive` is still right after a step, if the step's clause is marked as alive and the clauses that it deletes as not alive

@@ -1,0 +1,4 @@
+-- when an elimination is right, and the numbers of clauses in a refutation of the whole list
+pub mod Reductions
+-- which literals are stamped
+pub mod Stamps
