@@ -5,7 +5,7 @@
 //!
 //! Some queries come down to box questions. A box question has a rule and a goal: a property of a position, such as that
 //! another rule is broken there. It asks whether no configuration that obeys the rule has the goal at any position. For these
-//! queries the engines of a roster are asked before a search. A roster is a list of engines. An engine is any value that may
+//! queries the engines of a roster are asked before each search. A roster is a list of engines. An engine is any value that may
 //! propose a result of the search. It is sound if all that it proposes is right.
 #![tactic(auto)]
 

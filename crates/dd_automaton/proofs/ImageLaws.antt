@@ -1,4 +1,4 @@
--- The image of a configuration, from the values in its fundamental box, and under compositions.
+-- The image of a configuration, from the values in its fundamental box, and under compositions. Each cell that is read from the box has a symbol.
 use Rattle.std.proofs.Common.{◌≡◌, ◌<◌, ℕ, zero, suc, ◌+◌, Bool, true, false, List, [], ◌∷◌, ◌++◌, Some, None, cond, length, slice_get, ap, sym, ◌∙◌, refl, subst, arith, inl, inr}
 use Rattle.std.proofs.Math.Nat.{eq-or-lt_of_le}
 use Rattle.std.proofs.lemmas.Bool.{and_parts, and_from, ltb-true, lt-ltb, leb-true}
@@ -64,7 +64,8 @@ tile_is_below n t h c = by (nat_lt c.node t.nodes)
     by true = below_at n t.symbols h (tile_index t c)
     by false = tt
 
--- if cells are near the origin and belong to the setting, then each of them, shifted by the position of a cell of the box, has a symbol
+-- if cells are near the origin and belong to a setting with the configuration's number of nodes, then each of them, shifted by the position of a cell
+-- of the box, lies in the range of positions and has a symbol
 pub given_all : (t : Tile) (s : CommonNumbers) → IsPeriodic t → s.nodes ≡ t.nodes → (c : Cell) → IsInBox t c → (ds : List Cell) → list_all is_near ds ≡ true → list_all (is_cell_of s) ds ≡ true →
     are_given (tile_look t) c.position ds ≡ true
 given_all t s ok same c h [] near placed = refl
@@ -104,7 +105,7 @@ defined_outer f g t u h image = record {
   below = image.below h.symbols (inner_part (tile_numbers t h.symbols) f g h.formed);
 }
 
--- the image under a composition is the image of an image
+-- the image under a composition is the image, under the outer automaton, of the image under the inner one
 pub image_composed : (f g : Automaton) (t u w : Tile) → IsDefinedOn (v.Composed f g) t → IsPlaced f → IsImage g t u → IsImage f u w → IsImage (v.Composed f g) t w
 image_composed f g t u w h placed first second = record {
   dimension = second.dimension ∙ first.dimension;

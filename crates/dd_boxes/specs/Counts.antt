@@ -14,11 +14,11 @@ goal_clauses always = 0
 abbrev pub question_clauses : LocalRule → GoalOf → ℕ → ℕ
 question_clauses x g positions = region_clauses x (goal_clauses g) positions
 
--- the greatest number of clauses that a question may have
+-- the greatest value that this bound may have for a question
 abbrev pub most_clauses : ℕ
 most_clauses = 2000000
 
--- The question has at most `most_clauses` clauses on its largest box and on its largest torus. The box has the radius n or the goal's least radius,
--- whichever is greater. The torus has the period p along each axis.
+-- By this bound, the question has at most `most_clauses` clauses on its largest box and on its largest torus. The box has the radius n or the goal's
+-- least radius, whichever is greater. The torus has the period p along each axis.
 abbrev pub IsSmallQuestion : LocalRule → GoalOf → ℕ → ℕ → Type 0
 IsSmallQuestion x g n p = (least : ℕ) → IsLeastRadius g least → largest_clauses x (goal_clauses g) (max n least) p ≤ most_clauses

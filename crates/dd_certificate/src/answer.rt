@@ -18,7 +18,7 @@ pub enum Side {
 pub enum Reason {
     /// The search found no definite answer within the script's limits.
     Limits,
-    /// The linear program of a discharging query, or the list of fillings that it is made from, is too large.
+    /// The linear program of a discharging query, or a list of fillings that is made on the way to it, is too large.
     Large,
     /// A number became too large, in a step of the simplex method or in its result.
     Overflow,
@@ -26,7 +26,8 @@ pub enum Reason {
     Pivots,
 }
 
-/// A pattern in a `List` answer. A rule forbids it at a node. It has a symbol for each cell that the rule reads there.
+/// A pattern in a `List` answer. A rule forbids it at a node. For each cell that the rule reads there, it has a symbol that the
+/// cell's node allows.
 #[derive(Debug, Drop)]
 pub struct Listed {
     /// The node's number, from 0.
@@ -51,7 +52,8 @@ pub struct Starred {
 pub enum Answer {
     /// The configuration is in the subshift.
     Inside,
-    /// The rule is false at a cell of the configuration.
+    /// The rule is false at a cell of the configuration: the first cell of the fundamental box, the box that repeats, at which
+    /// it is false. Cells are taken in cell order.
     Outside {
         /// The coordinates of the cell, one for each dimension, and then its node.
         place: Items<i64>,
@@ -89,12 +91,12 @@ pub enum Answer {
     Unknown {
         reason: Reason,
     },
-    /// The patterns that the rule forbids, at all nodes.
+    /// The patterns with allowed symbols that the rule forbids, at all nodes.
     List {
         patterns: Items<Listed>,
     },
-    /// The least density, as a fraction, of the configurations of the subshift that have the strip's periods. A density is a
-    /// weight per position.
+    /// The least density, as a fraction, of the configurations of the subshift that have the strip's periods, some period along
+    /// the first axis, and shear 0. A density is a weight per position.
     Density {
         numerator: u64,
         denominator: u64,
@@ -104,7 +106,7 @@ pub enum Answer {
         /// A number for each state. These numbers show that no cycle has a lower density.
         potentials: Items<i64>,
     },
-    /// No configuration of the subshift has the strip's periods.
+    /// No configuration of the subshift has the strip's periods and shear 0.
     Empty {
         /// A number for each state of the transfer graph. These numbers fall along each edge, so no walk goes on forever.
         ranks: Items<u64>,
@@ -118,8 +120,8 @@ pub enum Answer {
         /// The numerators of the amounts that positions give, vector by vector, and for each vector pattern by pattern. What a
         /// position gives along a vector depends on the pattern of symbols around the position.
         amounts: Items<u64>,
-        /// The numerators of the duals: factors, one for each row of the query's linear program. They show that no amounts give a
-        /// greater bound.
+        /// The numerators of the duals: factors, one for each row of the query's linear program. They show that no amounts give
+        /// a greater bound.
         duals: Items<u64>,
     },
     /// Minimal patterns that together forbid exactly what the rule forbids. No further cell can be left out of any of them.
@@ -142,8 +144,8 @@ pub enum Answer {
         shear: u64,
         symbols: Items<u64>,
     },
-    /// The least weight of a fundamental box, the box that repeats, over the configurations of the subshift that have the query's
-    /// periods.
+    /// The least weight of a fundamental box, the box that repeats, over the configurations of the subshift that have the
+    /// query's periods and shear 0.
     Least {
         weight: u64,
         /// The symbols of a fundamental box of this weight, in cell order.
@@ -151,7 +153,7 @@ pub enum Answer {
         /// Steps that refute the claim that some such fundamental box weighs less. If the weight is 0, there are none.
         steps: Items<Step>,
     },
-    /// No configuration of the subshift has the query's periods.
+    /// No configuration of the subshift has the query's periods and shear 0.
     Nothing {
         /// Steps that refute the claim that there is such a configuration.
         steps: Items<Step>,

@@ -4,8 +4,8 @@
 //! formula asks for the cell's symbol. Cell order is by z, then y, then x, then node. The box of radius n consists of the
 //! positions whose coordinates are from -n to n.
 //!
-//! Strips, their slices and their transfer graphs are defined in `dd_transfer`. Discharging, with its amounts and duals, is
-//! defined in `dd_discharge`. The page `docs/certificate.md` says which clauses a refutation refutes.
+//! `dd_transfer` says what strips, their slices and their transfer graphs are. `dd_discharge` says what discharging is, with
+//! its amounts and duals. The page `docs/certificate.md` says which clauses a refutation refutes.
 #![tactic(auto, using(std::proofs::lemmas::Grind::common_steps))]
 
 mod answer;

@@ -1,5 +1,5 @@
-//! The text of a refutation. Refutations are by far the longest parts of an output, so each step is appended directly to the
-//! text of its answer, without a text of its own.
+//! The text of a refutation. Refutations are often by far the longest parts of an output, so each step is appended directly to
+//! the text of its answer, without a text of its own.
 ghost use Rattle.std.specs.Prelude.{◌≡◌, ◌++◌, OnOk};
 ghost use Rattle.std.specs.List.{flat_map};
 ghost use Rattle.dd_certificate.specs.Text.{literal_text, literals_to_zero, numbers_to_zero, refutation_text, step_text};

@@ -9,7 +9,7 @@ use Rattle.dd_verify.specs.Certificates.{IsCertificateOf}
 abbrev pub IsCertificateFor : Parts → Query → Answer → Type 0
 IsCertificateFor s q a = IsWritable a × IsSomeAnd (asked s q) (λ k. IsCertificateOf s.known.limits k a)
 
--- the answer is a certificate for the query with this number, counted from 1
+-- the answer is a certificate for the query with this number, counted from 1 (0 counts as 1)
 abbrev pub IsCertificate : Parts → ℕ → Answer → Type 0
 IsCertificate s number a = IsSomeAnd (query_at s number) (λ q. IsCertificateFor s q a)
 

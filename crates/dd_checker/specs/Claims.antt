@@ -9,6 +9,6 @@ use Rattle.dd_verify.specs.Certificates.{ClaimOf}
 abbrev pub ClaimFor : Parts → Query → Answer → Type 0
 ClaimFor s q a = IsSomeAnd (asked s q) (λ k. ClaimOf k a)
 
--- what an answer to the query with this number, counted from 1, claims
+-- what an answer to the query with this number, counted from 1 (0 counts as 1), claims
 abbrev pub Claim : Parts → ℕ → Answer → Type 0
 Claim s number a = IsSomeAnd (query_at s number) (λ q. ClaimFor s q a)

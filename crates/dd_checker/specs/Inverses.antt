@@ -17,7 +17,7 @@ is_conjugate a = starts_with nat_eq (verdict_text a) (codes "CONJUGATE")
 pub data IsConjugacy : Query → Type 0 where
   a_conjugacy : {there back from to : ℕ} → IsConjugacy (Query.Conjugate there back from to)
 
--- the query with this number, counted from 1, is such a query
+-- the query with this number, counted from 1 (0 counts as 1), is such a query
 abbrev pub IsConjugacyAt : Parts → ℕ → Type 0
 IsConjugacyAt s number = IsSomeAnd (query_at s number) IsConjugacy
 
@@ -38,6 +38,6 @@ pub data AreInverseFor (s : Parts) (look : Look) (v : Place) : Query → Type 0 
   are_inverse : {there back from to : ℕ} {x y : LocalRule} {f g : Automaton} → slice_get s.rules from ≡ Some x → slice_get s.rules to ≡ Some y →
       slice_get s.automata there ≡ Some f → slice_get s.automata back ≡ Some g → AreInverseAt x y f g look v → AreInverseFor s look v (Query.Conjugate there back from to)
 
--- `AreInverseFor` holds for the query with this number, counted from 1
+-- `AreInverseFor` holds for the query with this number, counted from 1 (0 counts as 1)
 abbrev pub AreInverseIn : Parts → ℕ → Look → Place → Type 0
 AreInverseIn s number look v = IsSomeAnd (query_at s number) (AreInverseFor s look v)

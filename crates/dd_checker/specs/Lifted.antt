@@ -37,6 +37,6 @@ pub data IsAskedNotAt : Asked → Look → Place → Type 0 where
   of_box : {x : LocalRule} {g : GoalOf} {look : Look} {v : Place} → IsNotAt x g look v → IsAskedNotAt (question.box x g) look v
   of_equality : {x y : LocalRule} {look : Look} {v : Place} → IsNotAt x (breaks y) look v → IsNotAt y (breaks x) look v → IsAskedNotAt (question.equality x y) look v
 
--- `IsAskedNotAt` holds for the question of the query with this number, counted from 1
+-- `IsAskedNotAt` holds for the question of the query with this number, counted from 1 (0 counts as 1)
 abbrev pub IsQueryNotAt : Parts → ℕ → Look → Place → Type 0
 IsQueryNotAt s number look v = IsSomeAnd (query_at s number) (λ q. IsSomeAnd (asked s q) (λ k. IsAskedNotAt k look v))

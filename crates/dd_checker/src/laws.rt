@@ -47,10 +47,10 @@ pub fn certified(script: &Script)
 }
 
 /// Changes nothing and allocates nothing. Its contract says what a YES means for any configuration, periodic or not. The
-/// configuration must have the script's number of nodes, and symbols that their nodes allow. `_place` must be a position of
-/// Z^d. The YES must be a certificate for the query with the number `_query`, counted from 1. This query asks one box question,
-/// or two if it is about equality. If the configuration obeys the premise of one of these questions, the goal of this question
-/// doesn't hold at `_place`.
+/// configuration must have the script's number of nodes, and give each cell a symbol that the cell's node allows. `_place` must
+/// be a position of Z^d. The YES must be a certificate for the query with the number `_query`, counted from 1 (0 counts as 1).
+/// This query asks one box question, or two if it is about equality. If the configuration obeys the premise of one of these
+/// questions, the goal of this question doesn't hold at `_place`.
 pub fn lifted<C: Configuration>(
     script: &Script,
     _query: u32,
@@ -70,9 +70,10 @@ pub fn lifted<C: Configuration>(
 }
 
 /// Changes nothing and allocates nothing. Its contract says what a CONJUGATE means for any configuration, periodic or not. The
-/// configuration must have the script's number of nodes, and symbols that their nodes allow. `_place` must be a position of
-/// Z^d. The CONJUGATE must be a certificate for the query with the number `_query`, counted from 1, which must be about a
-/// conjugacy. If the configuration obeys the first rule of the query, then at each node of `_place`:
+/// configuration must have the script's number of nodes, and give each cell a symbol that the cell's node allows. `_place` must
+/// be a position of Z^d. The CONJUGATE must be a certificate for the query with the number `_query`, counted from 1 (0 counts
+/// as 1), which must be about a conjugacy. If the configuration obeys the first rule of the query, then at each node of
+/// `_place`:
 /// - in the image under the first automaton, the symbol is allowed and the second rule is true;
 /// - in the image of this image under the second automaton, the symbol is the configuration's own.
 ///

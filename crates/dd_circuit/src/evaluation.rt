@@ -9,8 +9,8 @@ use crate::gates::{Circuit, Gate, Signal};
 use std::alloc::{AllocError, Global};
 
 impl Circuit {
-    /// The values of all variables if the inputs have the values `inputs`. The value of variable k is at index k - 1. Fails
-    /// only if memory runs out.
+    /// The values of all variables if the inputs have the values `inputs`, one for each input. The value of variable k is at
+    /// index k - 1. Fails only if memory runs out.
     pub fn values(&self, alloc: Global, inputs: &[bool]) -> Result<Vec<bool>, AllocError>
         requires { length inputs.now ≡ self.now.inputs }
         ensures exact { IfOk result (λ values. values.items ≡ values_from inputs.now self.now.gates) }

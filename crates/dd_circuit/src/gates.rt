@@ -1,5 +1,6 @@
-//! Circuits and their gates. The variables are numbered from 1: first those of the inputs, and then those of the gates in
-//! order. So a gate doesn't store its variable. The members of a gate are signals of earlier variables.
+//! Circuits, their gates, and the signals that the gates combine. The variables are numbered from 1: first those of the inputs,
+//! and then those of the gates in order. So a gate doesn't store its variable. The members of a gate are signals of earlier
+//! variables.
 ghost use Rattle.std.specs.Prelude.{◌≡◌, ◌+◌, ◌<◌, ◌≤◌, ◌∷◌, ◌++◌, [], All, IfOk, OnErr};
 ghost use Rattle.dd_values.specs.Bounds.{most_variables};
 ghost use Rattle.dd_circuit.specs.Circuits.{IsSignal, IsGate, AreGates, size, signal_of, opposite};
@@ -119,7 +120,8 @@ impl Circuit {
         })
     }
 
-    /// Adds a gate that is true if all members are, and returns its signal. If memory runs out, the circuit is unchanged.
+    /// Adds a gate that is true if all members are, and returns its signal. The members must be signals of the circuit, and it
+    /// must have fewer than 2^24 variables. If memory runs out, the circuit is unchanged.
     pub fn and(&mut self, members: &[Signal]) -> Result<Signal, AllocError>
         requires few { size self.old < most_variables }
         requires in_range { All (IsSignal (size self.old)) members.now }
@@ -134,7 +136,8 @@ impl Circuit {
         self.add(Gate::And(members))
     }
 
-    /// Adds a gate that is true if some member is, and returns its signal. If memory runs out, the circuit is unchanged.
+    /// Adds a gate that is true if some member is, and returns its signal. The members must be signals of the circuit, and it
+    /// must have fewer than 2^24 variables. If memory runs out, the circuit is unchanged.
     pub fn or(&mut self, members: &[Signal]) -> Result<Signal, AllocError>
         requires few { size self.old < most_variables }
         requires in_range { All (IsSignal (size self.old)) members.now }
@@ -149,8 +152,8 @@ impl Circuit {
         self.add(Gate::Or(members))
     }
 
-    /// Adds a gate that is true if `a` and `b` have the same value, and returns its signal. If memory runs out, the
-    /// circuit is unchanged.
+    /// Adds a gate that is true if `a` and `b` have the same value, and returns its signal. Both must be signals of the
+    /// circuit, and it must have fewer than 2^24 variables. If memory runs out, the circuit is unchanged.
     pub fn iff(&mut self, a: Signal, b: Signal) -> Result<Signal, AllocError>
         requires few { size self.old < most_variables }
         requires first_in_range { IsSignal (size self.old) a }

@@ -7,7 +7,7 @@ use crate::clause::Literal;
 use crate::cnf::Cnf;
 use std::marker::Model;
 
-/// One truth value for each variable. Variables are numbered from 1, so the variable k has the value at index k - 1.
+/// Truth values of the variables 1, 2 and so on, in this order: the variable k has the value at index k - 1.
 #[derive(Debug, Drop)]
 pub struct Assignment {
     values: Vec<bool>,

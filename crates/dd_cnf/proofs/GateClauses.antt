@@ -24,13 +24,14 @@ clauses_step before now new n variable gs i g within here number so_far pushed =
     rw (pushed, so_far, number, gates_clauses-more n gs i g within here)
     (append_assoc before (gates_clauses n (take i gs)) (gate_clauses (suc (n + i)) g))
 
--- the last clause of an And or Or gate is over the variables of the clause list
+-- the last clause of an And or Or gate, as far as it has been made, is over the variables 1..n: it has the gate's literal and those of the first i
+-- members
 pub last_in_range : (n : ℕ) (gate : Literal) (sign : Bool) (members : List Signal) (literals : List Literal) (i : ℕ) →
     literals ≡ gate ∷ map (signed sign) (take i members) → IsLiteralInRange n gate → All (IsSignal n) members → IsClauseInRange n literals
 last_in_range n gate sign members literals i is first rest =
     rw is (All-cons (IsLiteralInRange n) gate (map (signed sign) (take i members)) first (All-map (IsLiteralInRange n) (signed sign) (take i members) (All-take (IsSignal n) i members rest)))
 
--- each gate from `from` on is over the variables of the clause list
+-- the members of each gate from `from` on are signals of the variables 1..m, if these include all variables of the circuit
 pub gate_from : (n m from : ℕ) (gs : List Gate) (i : ℕ) (g : Gate) → from ≤ length gs → n + length gs ≤ m → AreGates n gs →
     i < length (take (length gs - from) (drop from gs)) → g ≡ get_or (take (length gs - from) (drop from gs)) i g → IsGate m g
 gate_from n m from gs i g low few ok within here =

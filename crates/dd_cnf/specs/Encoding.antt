@@ -1,4 +1,4 @@
--- The clauses of gates (Tseitin 1968). The clauses of a gate say that its variable has the gate's value.
+-- The clauses of gates and of circuits (Tseitin 1968). The clauses of a gate say that its variable has the gate's value.
 use Rattle.std.specs.Prelude.{ℕ, suc, Bool, true, false, not, if◌then◌else◌, List, [], ◌∷◌, ◌++◌, map}
 use Rattle.dd_clause.specs.{declared.clause.Literal.Literal, Clauses.negation, Clauses.ClauseList}
 use Rattle.dd_circuit.specs.declared.gates.{Signal.Signal, Gate.Gate}

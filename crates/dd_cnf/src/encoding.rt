@@ -1,5 +1,6 @@
-//! The clauses of a gate are satisfied exactly when the gate's variable has the gate's value. So the clauses of all gates
-//! leave the inputs free, and fix every other variable.
+//! Adds the clauses of gates and of circuits to clause lists. The clauses of a gate are satisfied exactly when the gate's
+//! variable has the gate's value. So the clauses of all gates leave the inputs free, and fix every other variable once the
+//! inputs have values.
 ghost use Rattle.std.specs.Prelude.{◌≡◌, ◌+◌, ◌≤◌, ◌∷◌, ◌++◌, [], drop, length, All, IfOk, OnOk, OnErr};
 ghost use Rattle.dd_clause.specs.Clauses.{IsLiteralInRange, IsClauseInRange};
 ghost use Rattle.dd_circuit.specs.Circuits.{IsSignal, IsGate, size};

@@ -1,4 +1,5 @@
-//! The table of queries, with a row for each kind. The rows alone say how queries are read, and what their words name.
+//! The table of queries, with a row for each kind. The rows alone say how queries are read, what their words name, and how many
+//! symbols they need.
 ghost use Rattle.std.specs.Prelude.{◌≡◌};
 ghost use Rattle.dd_commands.specs.Table.{row};
 
@@ -52,8 +53,8 @@ pub enum QueryKind {
     Minimal,
     /// `density X [5]`: what is the least density that the rule allows on a strip with these periods?
     Density,
-    /// `least X [3 3]`: of the configurations that obey X and have these periods, what is the least weight of the box that
-    /// repeats?
+    /// `least X [3 3]`: of the configurations that obey X and have these periods and no shear, what is the least weight of the
+    /// box that repeats?
     Least,
     /// `discharge X r m [1 0] ..`: what is the best lower bound for the density by discharging, with radius r, margin m and
     /// these vectors?

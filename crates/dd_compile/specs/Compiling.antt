@@ -1,4 +1,5 @@
--- The gates of an expansion, as a function of the number of variables before them.
+-- The gates of an expansion, as a function of the number of variables before them, and how many they are; the wires that its leaves need; and when one
+-- circuit extends another.
 use Rattle.std.specs.Prelude.{ℕ, ◌+◌, ◌≡◌, ◌&&◌, Bool, false, if◌then◌else◌, nat_le, List, [], ◌∷◌, ◌++◌, map, length, Option, Some, None}
 use Rattle.std.specs.List.{list_all}
 use Rattle.dd_lattice.specs.{Place.Place, Place.moved, Place.is_in_range, Cells.shifted, declared.position.Cell.Cell}

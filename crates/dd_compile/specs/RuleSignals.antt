@@ -13,7 +13,7 @@ use Rattle.dd_compile.specs.Wiring.{Wiring, signals_of, wire_of}
 abbrev pub is_signal : ℕ → Signal → Bool
 is_signal n s = nat_le 1 s.variable && nat_le s.variable n
 
--- there is one signal for each of k symbols, and the variable of each signal is one of 1..n
+-- there is a list of signals, one for each of k symbols, and the variable of each signal is one of 1..n
 abbrev pub are_signals : ℕ → ℕ → Option (List Signal) → Bool
 are_signals n k None = false
 are_signals n k (Some ss) = (length ss == k) && list_all (is_signal n) ss

@@ -20,8 +20,8 @@ pub record IsMadeValue (n k : ℕ) (f : Automaton) (w : Wiring) (at : Cell) (m :
       SaysWhich set m.signals (value f look at)
 
 -- Take a cell at least 16 * (d + 1) from the border of the range of positions, where d is the automaton's depth. A composition takes its inner
--- automaton's values at cells at most 16 away, and the parts, too, read at most 16 away. So only cells in range are read. If each cell that the
--- automaton reads at this cell has its signals, the gates of the automaton's value are as `IsMadeValue` says.
+-- automaton's values at cells at most 16 away, and each automaton by cases reads at most 16 away. So only cells in range are read. If each cell that
+-- the automaton reads at this cell has its signals, the gates of the automaton's value are as `IsMadeValue` says.
 abbrev pub SaysNear : Automaton → Type 0
 SaysNear f =
     (s : CommonNumbers) → IsAutomaton s f → (w : Wiring) (at : Cell) (n : ℕ) → at.node < s.nodes → extent at.position + 16 * (counted f).depth + 16 ≤ most_coordinate →

@@ -29,7 +29,7 @@ use std::alloc::{AllocError, Global};
 
 /// Adds the gates of the automaton's value at the cell `at`, over an alphabet of `symbols` symbols. Returns the signals of the
 /// value, numbered from 0: signal `s` says that the value at `at` is the symbol `s`. If memory runs out, gates may have been
-/// added.
+/// added. The cell must be at least 2048 from the border of the range of positions.
 ///
 /// For a composition, first come the gates of the inner automaton's value at each cell that the outer automaton reads, in cell
 /// order. Then come the gates of the outer automaton's value, with the signals of the inner values as their inputs.
@@ -64,7 +64,7 @@ pub fn value_gates(_automaton: &Automaton, _symbols: u32)
 
 /// The same as `compile_value`, but for each cell at least 16 * (d + 1) from the border of the range of positions, where d is
 /// the automaton's depth (how deep its compositions are nested). A composition takes its inner automaton's values at cells at
-/// most 16 away, and the parts, too, read at most 16 away. So only cells in range are read.
+/// most 16 away, and each automaton by cases reads at most 16 away. So only cells in range are read.
 #[cycle(compile_near)]
 fn compile_near(
     circuit: &mut Circuit,

@@ -80,7 +80,7 @@ impl Inputs {
         }
     }
 
-    /// Whether the cell has `symbols` signals, each with a variable from 1 to `variables`.
+    /// Whether the inputs have the cell, with `symbols` signals, each with a variable from 1 to `variables`.
     pub fn has_signals(&self, cell: &Cell, symbols: u32, variables: u32) -> bool
         ensures { result ≡ are_signals variables symbols (signals_of self.now cell.now) }
     {

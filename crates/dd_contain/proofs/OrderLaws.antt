@@ -1,4 +1,5 @@
--- If an ascending list has exactly the periods within the limits, its first item that satisfies a condition comes before all others that do.
+-- If an ascending list has exactly the periods within the limits, its first item that satisfies a condition comes before all others that do. If none
+-- of its items does, no periods within the limits do.
 use Rattle.std.proofs.Common.{◌≡◌, ℕ, ◌<◌, List, length, get_or, Some, refl, sym, subst, inl, inr, Contains}
 use Rattle.std.proofs.lemmas.Bool.{cases_order}
 use Rattle.std.proofs.lemmas.Cmp.{nat_cmp_total, on_total, then_total, tied_itself}

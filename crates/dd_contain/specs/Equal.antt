@@ -37,7 +37,7 @@ pub record IsEqualDecided (x y : LocalRule) (n p : ℕ) (equality : Equality) : 
   pub right_decided : UnlessNo left (IsDecided y (breaks x) n p right)
   pub join : equality ≡ joined left right
 
--- if the answer is YES, each question's box has clauses with at most 2^24 variables, and the numbers of its clauses and steps fit in 64 bits
+-- if the answer is YES, each question's box has clauses with at most 2^24 variables, and the number of its clauses and steps together fits in 64 bits
 abbrev pub HasBothNumbers : LocalRule → LocalRule → Equality → Type 0
 HasBothNumbers x y (Same left right) =
     AreNumbered (box_problem x (breaks y) left.radius) left.steps × AreNumbered (box_problem y (breaks x) right.radius) right.steps

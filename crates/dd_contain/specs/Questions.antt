@@ -11,7 +11,7 @@ use Rattle.dd_contain.specs.declared.decision.Decision.{Decision}
 use Rattle.dd_contain.specs.declared.decision.Decision.TheVariants.{Yes, No, Unknown}
 use Rattle.dd_contain.specs.Decided.{IsDecidedBy}
 
--- the steps refute the clauses of the box; there are at most 2^24 variables, and the numbers of clauses and steps fit in 64 bits
+-- the steps refute the clauses of the box; there are at most 2^24 variables, and the number of clauses and steps together fits in 64 bits
 pub record RefutesByNumbers (x : LocalRule) (g : GoalOf) (n : ℕ) (steps : List Step) : Type 0 where
   pub refuting : IsRefuting (box_problem x g n) steps
   pub numbered : AreNumbered (box_problem x g n) steps
@@ -45,7 +45,7 @@ IsDecided x g n p decision =
     (least : ℕ) × IsLeastRadius g least
     × IsDecidedBy (Suffices x g) (λ k steps. IsRefuting (box_problem x g k) steps) (ShowsAt x g) (Displays x g) least (max n least) x.dimension p decision
 
--- if the decision is YES, the clauses of its box have at most 2^24 variables, and the numbers of its clauses and steps fit in 64 bits
+-- if the decision is YES, the clauses of its box have at most 2^24 variables, and the number of its clauses and steps together fits in 64 bits
 abbrev pub HasNumbers : LocalRule → GoalOf → Decision → Type 0
 HasNumbers x g (Yes n steps) = AreNumbered (box_problem x g n) steps
 HasNumbers x g (No tile) = Unit {0}

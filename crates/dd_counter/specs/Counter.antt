@@ -57,7 +57,7 @@ abbrev pub row : List ℕ → ℕ → ℕ → List Signal → Making
 row ws below k before = joined (map (count ws k before) (range_with_len 0 below))
 
 -- The rows of c cells, from the cell k on. The first one is over the row `before`, and each other one over the row before it. The signals are those
--- of the last row.
+-- of the last row, or `before` if c is 0.
 abbrev pub rows : List ℕ → ℕ → ℕ → ℕ → List Signal → Making
 rows ws below zero k before n = making before []
 rows ws below (suc c) k before n =

@@ -4,7 +4,8 @@ pub mod Counter
 pub mod Weights
 -- living configurations, their least weight, and what it means that the result of the search for it is right
 pub mod Least
--- what a refutation of the clauses in `Weights` says about the weights of all living configurations
+-- the laws of the least weight: what a refutation of the clauses in `Weights` says about the weights of all living configurations, and facts about
+-- these clauses
 pub mod Laws
 -- what the search for a lighter configuration returns
 pub mod searching

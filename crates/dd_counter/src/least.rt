@@ -129,10 +129,11 @@ fn lightened(
     }
 }
 
-/// The descent: finds a living configuration that weighs at most `NEAR` more than the least weight. A local search from `start`
-/// finds the first configuration. Then each search asks for one that is lighter by more than `step` than the last one found. A
-/// success doubles `step`. A refutation sets `step` back to `NEAR`, and raises `refuted`. No living configuration weighs less
-/// than `refuted`. So where a search would ask for a weight below `refuted`, it asks for the weight `refuted` instead.
+/// The descent: finds a living configuration that weighs at most `NEAR` more than the least weight. The first configuration is
+/// the one that `lightened` gives for `start`. Then each search asks for one that is lighter by more than `step` than the last
+/// one found. A success doubles `step`. A refutation sets `step` back to `NEAR`, and raises `refuted`. No living configuration
+/// weighs less than `refuted`. So where a search would ask for a weight below `refuted`, it asks for the weight `refuted`
+/// instead.
 fn descended(
     alloc: Global,
     rule: &Rule,

@@ -18,7 +18,7 @@ use std::alloc::{AllocError, Global};
 /// This much work takes a few milliseconds.
 const PATIENCE: u64 = 100_000;
 
-/// How much the whole search may cost. This much work takes about a second.
+/// How much the whole search may cost. Once it has cost this much, it makes no more steps. This much work takes about a second.
 const MOST_COST: u64 = 50_000_000;
 
 /// A change of one cell's symbol. Two changes are compared field by field, in the order of the fields, and the smaller one is
@@ -97,7 +97,8 @@ impl<'a> LocalSearch<'a> {
         self.lighten_all();
         let mut best = Vec::from_slice(alloc, self.symbols.as_slice())?;
         let mut least = self.weight;
-        // Each step costs at least 1, so the patience ends long before this bound.
+        // Each step costs at least 1, and the patience is never more than what is left of the budget. So the loop ends long
+        // before this bound.
         for _ in 0..u64::MAX {
             if least == 0 || self.patience == 0 || !self.make_step(least)? {
                 break;

@@ -11,7 +11,7 @@ use dd_pattern::{Periodic, Reads};
 use std::alloc::{AllocError, Global};
 
 /// A numbering of the cells that are given relative to the position `at`. The number of a cell is the symbol that the
-/// configuration `numbers` has there (see `numbered_box`).
+/// configuration `numbers` has there (see `numbered_box`). A cell out of range has no number.
 #[derive(Drop)]
 struct Around<'a, R> {
     numbers: &'a R,
@@ -191,7 +191,7 @@ impl TorusRule {
 }
 
 /// The configuration with the dimension, periods, shear and nodes of `periodic` in which each cell of the fundamental box has
-/// its own number as its symbol.
+/// its own number as its symbol. The result is never `None`, since `periodic` is such a configuration with other symbols.
 fn numbered_box(alloc: Global, periodic: &Periodic) -> Result<Option<Periodic>, AllocError> {
     let mut numbers: Vec<u32> = Vec::new(alloc);
     for number in 0..periodic.symbols().len() {

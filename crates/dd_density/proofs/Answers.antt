@@ -68,7 +68,7 @@ is_small r s weights g (mean.NoCycle ranks) (Empty given) is least over of = λ 
 is_small r s weights g (mean.Least m l cycle ps) (Empty given) is least over of = absurd of
 is_small r s weights g (mean.NoCycle ranks) (Least p q walk qs) is least over of = absurd of
 
--- a slice has y * z positions; this is at least 1 if both periods are
+-- a slice has y * z positions; this is at least 1 if both periods are, and at most 4,096 if both are at most 64
 pub volume_some : (y z : ℕ) → 0 < y → 0 < z → 0 < y * z
 volume_some y z p q = some_product y z p q
 

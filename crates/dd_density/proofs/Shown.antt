@@ -1,4 +1,5 @@
--- A closed walk has exactly one mean and one density in lowest terms. So those that the check computes are the only right ones.
+-- What the check tests is what a certificate needs. At most one edge leaves a state by a slice. A closed walk has exactly one mean and one density in
+-- lowest terms, so those that the check computes are the only right ones.
 use Rattle.std.proofs.Common.{◌≡◌, ℕ, ◌*◌, ◌<◌, ◌≤◌, ◌^◌, Bool, IsTrue, ◌↔◌, List, length, Some, arith, sym, ◌∙◌, subst}
 use Rattle.std.proofs.Math.Nat.{mul-le-mul}
 use Rattle.std.specs.Prelude.{ℤ, pos, ◌-ℤ◌, ◌≤ℤ◌}

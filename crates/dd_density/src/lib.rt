@@ -1,7 +1,7 @@
 //! The least density of the configurations that live on a strip, with its certificate, and the check of such certificates. A
-//! strip has periods along y and z, and no end along x. A configuration lives on the strip if it obeys a given rule everywhere,
-//! and it stays the same when it is moved by the strip's period along y, by that along z, or by some period along x. Each
-//! symbol has a weight, and the density of a configuration is its weight per position.
+//! strip has periods along y and z, and no end along x. A configuration lives on the strip if each cell has a symbol that its
+//! node allows, it obeys a given rule everywhere, and it stays the same when it is moved by the strip's period along y, by that
+//! along z, or by some period along x. Each symbol has a weight, and the density of a configuration is its weight per position.
 //!
 //! The certificate speaks of the transfer graph (see `dd_transfer`). A slice of the strip gives a symbol to each cell at one
 //! value of x. It weighs as much as its symbols together. A state of the graph consists of consecutive slices. An edge leads

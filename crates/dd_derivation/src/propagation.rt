@@ -139,7 +139,8 @@ pub fn find<F: FalseLiterals>(falses: &F, clause: &[Literal]) -> Finding
     }
 }
 
-/// What the clause of the hint at this place says once the hints before it have been followed. `Open` if there is no such clause.
+/// What the clause of the hint at this place says once the hints before it have been followed. `Open` if there is no such
+/// clause.
 fn find_hint(
     known: &Known,
     marks: &[VariableMark],
@@ -186,8 +187,8 @@ pub fn follow_hints(known: &Known, marks: &mut [VariableMark], number: u64, step
     false
 }
 
-/// Marks the literals of a step's clause as false, and returns true. At a variable that is out of range, or that occurs a second
-/// time, the call stops and returns false.
+/// Marks the literals of a step's clause as false, and returns true. At a variable that is out of range, or that occurs a
+/// second time, the call stops and returns false.
 pub fn start_marks(marks: &mut [VariableMark], step: u64, clause: &[Literal]) -> bool
     requires { AreBelow step marks.old }
     ensures value { result ≡ spec.is_proper (length marks.old) clause.now }

@@ -1,5 +1,6 @@
-//! The check of a refutation: whether each step is right, and the last step's clause is empty. The check allocates nothing. It
-//! works in `Marks`, which are made beforehand and may be used for several checks.
+//! The check of a refutation (there is at least one step, each step is right, and the last step's clause is empty), and the
+//! check of a single step. Both allocate nothing. They work in `Marks`, which are made beforehand and may be used for several
+//! checks.
 ghost use Rattle.std.specs.Prelude.{◌≡◌, ℕ, ◌+◌, ◌<◌, ◌≤◌, Bool, true, false, List, length, slice_index_or, IfOk, ◌-◌, ◌^◌};
 ghost use Rattle.dd_clause.specs.declared.clause.Literal.{Literal};
 ghost use Rattle.dd_clause.specs.Clauses.{Satisfies};

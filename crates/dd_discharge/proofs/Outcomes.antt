@@ -1,4 +1,4 @@
--- A discharge has only one outcome, since a rule has at most one program along given vectors, and a run stops in only one way.
+-- A discharge has at most one outcome, since a rule has at most one program along given vectors, and a run stops in only one way.
 use Rattle.std.proofs.Common.{◌≡◌, ℕ, ◌+◌, ◌<◌, ◌≤◌, List, ◌++◌, length, get_or, map, drop, inl, inr, sym, ap, subst, ◌∙◌, arith}
 use Rattle.std.proofs.lemmas.List.{ext_get_or}
 use Rattle.std.specs.{Prelude.◌⊎◌, Prelude.unsigned_abs, List.All, List.Any}

@@ -4,7 +4,7 @@ pub mod Denominators
 pub mod Printed
 -- the result of a discharge: the result of the simplex run of its program, over the least common denominator
 pub mod Bounds
--- the law that a discharge has only one outcome: one bound, or one reason why there is none
+-- the law that a discharge has at most one outcome: one bound, or one reason why there is none
 pub mod Outcomes
 -- what certifies a bound for the rows of a program: amounts that reach it, and duals that show that no amounts do better
 pub mod Amounts

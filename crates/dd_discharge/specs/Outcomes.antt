@@ -1,4 +1,4 @@
--- A discharge has only one outcome: one bound, or one reason why there is none. Running out of memory doesn't count.
+-- A discharge has at most one outcome: one bound, or one reason why there is none. Running out of memory doesn't count.
 use Rattle.std.specs.Prelude.{ℕ, ◌≡◌, ◌⊎◌, List}
 use Rattle.dd_lattice.specs.Place.{Place}
 use Rattle.dd_formula.specs.LocalRule.{LocalRule}

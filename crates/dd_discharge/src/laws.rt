@@ -14,8 +14,8 @@ pub fn best_bound()
         IsBoundCertificate x weights radius margin vectors bound → BestOf x weights radius margin vectors bound.numerator bound.denominator }
 {}
 
-/// Does nothing; its contract says that a discharge has only one outcome: one bound, or one reason why there is none. Running
-/// out of memory doesn't count.
+/// Does nothing; its contract says that a discharge has at most one outcome: one bound, or one reason why there is none.
+/// Running out of memory doesn't count.
 #[tactic(auto, using(crate::proofs::Outcomes::one_outcome))]
 pub fn one_outcome()
     ensures { (x : LocalRule) (weights : List ℕ) (radius margin : ℕ) (vectors : List Place) (pivots : ℕ) → HasOneOutcome x weights radius margin vectors pivots }

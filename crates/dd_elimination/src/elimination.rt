@@ -1,8 +1,10 @@
 //! The elimination of variables by resolution. To eliminate a variable, the clauses that have it or its negation are replaced
 //! by all their resolvents on it (Davis and Putnam 1960), except those that hold a literal and its negation. This is done only
-//! if it leaves no more clauses than before. A clause that contains all literals of another is removed, and a literal that
-//! another clause makes redundant is dropped (Eén and Biere 2005). Each new clause is the clause of a step. The step's hints
-//! are the numbers of the two clauses that the new clause comes from. (See the file `resolution.rt` for resolvents.)
+//! if it leaves no more clauses than before. Each clause, old or new, has a turn. If it is still in the list then, it is
+//! compared with the other clauses there: one that contains all its literals is removed, and a literal that it makes redundant
+//! is dropped (Eén and Biere 2005). The comparisons end when a limit on their work is reached. Each new clause is the clause of
+//! a step. The step's hints are the numbers of the two clauses that the new clause comes from. (See the file `resolution.rt`
+//! for resolvents.)
 //!
 //! No contract depends on what is done here, since the answer for the whole list is checked. No invariant says that the indices
 //! kept here are within their lists. So the code tests them. The tests never fail.
@@ -19,8 +21,8 @@ const MOST_PAIRS: usize = 1000;
 /// A variable is kept if one of the resolvents that would replace its clauses has more literals than this.
 const MOST_LITERALS: usize = 20;
 
-/// The greatest number of rounds. The first round tries all variables, and each later one those whose clauses changed since
-/// they were last tried.
+/// The greatest number of rounds. The first round tries all variables, and each later one those that have lost a clause since
+/// they were last tried. A variable that `candidates` leaves out of a round may be tried in a later one.
 const ROUNDS: usize = 10;
 
 /// Roughly the greatest number of pairs of literals that are compared. Comparing that many takes about half a second.
@@ -276,7 +278,7 @@ impl Elimination {
         Ok(())
     }
 
-    /// Removes the clauses that this one subsumes, and shortens those that it can shorten.
+    /// Removes the clauses that this one subsumes, and shortens those that it can shorten, until `work` is 0.
     fn compare(&mut self, alloc: Global, index: usize) -> Result<(), AllocError> {
         let Some(variable) = self.rarest_variable(index) else {
             return Ok(());

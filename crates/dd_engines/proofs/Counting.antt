@@ -91,7 +91,7 @@ some_written counts marks start number count lt listed some =
       marked = λ k h. listed.marked k (before k h);
     }
 
--- any count can be written if its block gets a mark
+-- any count can be written if its block gets a mark, and if the search then starts at this block or earlier
 pub written_marked : (counts : List ℕ) (marks : List Bool) (start number count : ℕ) → number < length counts → IsListed counts marks start → IsListed (set counts number count) (set marks (number / 32) true) (min start (number / 32))
 written_marked counts marks start number count lt listed =
     let inside : number / 32 < length marks = omega (arith, lt, listed.long) in

@@ -1,4 +1,4 @@
--- A round keeps the engines, and so do several rounds, one after the other.
+-- A round keeps the engines, and so do several rounds, one after the other. Unless memory runs out, `FirstAsked` holds after a round.
 use Rattle.std.proofs.Common.{◌≡◌, ◌≢◌, ◌-◌, ◌^◌, ◌<◌, List, [], ◌∷◌, true, refl, sym, ◌∙◌, ⊎_elim, arith}
 use Rattle.dd_engines.specs.Rounds.{Seen, AskedOnce, AskedSince, Later, Round, End, found, nothing, memory, all_asked, was_found, before_asking, at_asking, gave_nothing, was_dropped, Kept, none_left, stayed, let_go, FirstAsked, nobody, first, went, IsHeadAsked, one_was_asked}
 

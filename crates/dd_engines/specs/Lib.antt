@@ -1,6 +1,6 @@
 -- how a list of engines changes when they are asked in turn, and what it means that the list is kept
 pub mod Rounds
--- which proposals and outcomes are right
+-- which proposals and outcomes are right, how a proposal changes an engine's count of proposals, and how a round ends
 pub mod Proposals
 -- the counts of an engine
 pub mod Tallies

@@ -1,4 +1,4 @@
--- Which proposals and outcomes are right.
+-- Which proposals and outcomes are right, how a proposal changes an engine's count of proposals, and how a round ends.
 use Rattle.std.specs.Prelude.{◌≡◌, ℕ, ◌≤◌, Bool, List, length, Result, Ok, Err, Option, Some, None}
 use Rattle.dd_values.specs.{Counts.Rose, Variables.true_variables}
 use Rattle.dd_clause.specs.Clauses.{ClauseList, Satisfies}

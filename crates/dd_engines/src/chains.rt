@@ -23,8 +23,8 @@ pub struct Link {
 /// The chains of all literals.
 #[derive(Drop)]
 pub struct Chains {
-    /// For each literal, at the literal's place, the number of the first link of its chain, counted from 1, or 0 if the chain is
-    /// empty.
+    /// For each literal, at the literal's place, the number of the first link of its chain, counted from 1, or 0 if the chain
+    /// is empty.
     pub firsts: Vec<usize>,
     /// The links of all chains.
     pub links: Vec<Link>,

@@ -3,9 +3,9 @@
 //! doubled (Brent 1980). A count says in how many variables the present assignment differs from the landmark.
 //!
 //! A flip takes a clause, and picks a literal of it: the one whose place is the number of the flip modulo the length of the
-//! clause. Here a period is a common multiple of the lengths of the clauses taken since the landmark. It isn't the length of the
-//! cycle. If the walk is back at the landmark's values, and the number of flips since the landmark is a multiple of a period,
-//! the next flips pick the same literals again. The lengths of other clauses don't matter.
+//! clause. Here a period is a common multiple of the lengths of the clauses taken since the landmark. It isn't the length of
+//! the cycle. If the walk is back at the landmark's values, and the number of flips since the landmark is a multiple of a
+//! period, the next flips pick the same literals again. The lengths of other clauses don't matter.
 ghost use Rattle.std.specs.Prelude.{◌≡◌, ◌*◌, ◌<◌, ◌%◌, true, false, not, length, replicate, slice_set, slice_index_or, IfOk, IfSome};
 ghost use Rattle.dd_engines.specs.walking.Cycles.{IsCounted, IsBack, IsSameOrNew, IsPeriodWith};
 
@@ -65,7 +65,8 @@ impl Landmark {
         }
     }
 
-    /// Replaces the landmark with the assignment after `k` flips, if the number of flips has at least doubled since the landmark.
+    /// Replaces the landmark with the assignment after `k` flips, whose values are `values`, if the number of flips has at
+    /// least doubled since the landmark.
     pub fn renew(&mut self, k: u32, values: &[bool])
         requires { IsCounted self.old values.now }
         ensures counted { IsCounted self.new values.now }
@@ -80,8 +81,8 @@ impl Landmark {
 
     /// A period of the flips since the landmark, up to and including flip number `k`, counted from 0. `length` is the length of
     /// the clause that flip `k` takes. `period` is a period of these flips without flip `k`, or `None` if none is known. It
-    /// isn't used if flip `k` is the first since the landmark. Returns `None` if `period` is needed but is `None`, or if the
-    /// new period is greater than `most`: a walk of `most` flips has no use for it.
+    /// isn't used if flip `k` is the first since the landmark. Returns `None` if `period` is needed but is `None`, if `length`
+    /// doesn't fit in 32 bits, or if the new period is greater than `most`: a walk of `most` flips has no use for it.
     pub fn period_with(&self, k: u32, period: Option<u32>, length: usize, most: u32) -> Option<u32>
         requires { IfSome period (λ t. 0 < t) }
         ensures { IfSome result (IsPeriodWith self.now.flips k period length) }
@@ -92,8 +93,8 @@ impl Landmark {
     }
 }
 
-/// The least positive multiple of `first` that is also a multiple of `other`. `None` if it is greater than `most`. If `other` is
-/// 0, the result is `first`.
+/// The least positive multiple of `first` that is also a multiple of `other`. `None` if it is greater than `most`. If `other`
+/// is 0, the result is `first`, even if `first` is greater than `most`.
 fn common_multiple(first: u32, other: u32, most: u32) -> Option<u32>
     requires { 0 < first }
     ensures { IfSome result (λ found. (0 < found) × (found % first ≡ 0) × (0 < other → found % other ≡ 0)) }

@@ -26,10 +26,10 @@ pub trait Engine: Drop {
     /// How often it was asked. The count stops at 2^64 - 1.
     ghost asked: { Self → ℕ };
 
-    /// How often it proposed something. The count stops at 2^64 - 1.
+    /// A count that rises each time it proposes something, and only then. The count stops at 2^64 - 1.
     ghost given: { Self → ℕ };
 
-    /// Whether each of its proposals is right.
+    /// Whether it counts as sound. If it does, each of its proposals is right.
     ghost sound: { Self → Bool };
 
     /// Proposes something about the clauses, or nothing. If memory runs out, the call fails. Then nothing is proposed, but the

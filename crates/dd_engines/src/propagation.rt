@@ -1,6 +1,6 @@
-//! Unit propagation from no assumptions. If all literals of a clause but one are false, the clause forces the remaining one to
-//! be true. A conflict is a clause whose literals are all false. Propagation ends at a conflict, or when a pass over all
-//! clauses changes nothing.
+//! Unit propagation from no assumptions. If all literals of a clause but one are false, and this one has no value yet, the
+//! clause forces it to be true. A conflict is a clause whose literals are all false. Propagation ends at a conflict, or when a
+//! pass over all clauses changes nothing.
 //!
 //! Each clause has a count of its literals that are not false. When a literal becomes false, the counts of the clauses that
 //! contain it fall by one, and each clause whose count falls to one is looked at next. So a second pass finds nothing new, and

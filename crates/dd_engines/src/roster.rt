@@ -12,7 +12,7 @@ use dd_derivation::{Marks, Outcome, check_refutation};
 use std::alloc::{AllocError, Global};
 
 /// Engines that are asked in turn. Contracts say of each engine how often it was asked, how often it proposed something, and
-/// whether it is sound, that is, whether all its proposals are right.
+/// whether it counts as sound; if it does, all its proposals are right.
 #[derive(Drop)]
 pub struct Roster<E = Box<dyn Engine>> {
     engines: Vec<E>,

@@ -1,5 +1,5 @@
-//! The engine that walks: it tries the assignments of one walk. Each flip takes a clause that is not satisfied, and makes one of
-//! its literals true (Papadimitriou 1991; Selman, Kautz and Cohen 1994). Here nothing is random.
+//! The engine that walks: it tries the assignments of one walk. Each flip takes a clause that is not satisfied, and makes one
+//! of its literals true (Papadimitriou 1991; Selman, Kautz and Cohen 1994). Here nothing is random.
 ghost use Rattle.std.specs.Prelude.{◌≡◌, ◌-◌, ◌^◌, ◌≤◌, true, IfOk, OnErr};
 ghost use Rattle.dd_engines.specs.Proposals.{IsRight, GivenAfter};
 ghost use Rattle.dd_engines.specs.Rounds.{RisesByOne};

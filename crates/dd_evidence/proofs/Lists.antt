@@ -1,5 +1,5 @@
--- There is only one list of the patterns that a rule forbids, and an output can hold it. Its patterns at a node are exactly the fillings that break
--- the rule there.
+-- There is only one list of the patterns that a rule forbids. An output can hold it, if at each node the cells that the rule reads have at most 65,536
+-- fillings. Its patterns at a node are exactly the fillings that break the rule there.
 use Rattle.std.proofs.Common.{◌≡◌, ℕ, zero, suc, ◌*◌, ◌^◌, ◌≤◌, ◌<◌, inl, inr, List, [], ◌∷◌, ◌++◌, map, length, ap, sym, subst, arith}
 use Rattle.std.proofs.lemmas.List.Elements.{All-weaker, All-contains_itself, Contains-append_left, Contains-append_right, Contains-append_cases}
 use Rattle.std.proofs.lemmas.Bool.{cases_lt}

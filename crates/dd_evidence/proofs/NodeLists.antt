@@ -1,5 +1,5 @@
--- Lists made node by node. The whole list is unique if the list of each node is unique. It is short if the lists of the nodes are short, and its
--- entries have a property if those of each node have it.
+-- Lists made node by node. With the entries of the next node appended, a list for n nodes becomes one for n + 1. The whole list is unique if the list
+-- of each node is unique. It is short if the lists of the nodes are short, and its entries have a property if those of each node have it.
 use Rattle.std.proofs.Common.{◌≡◌, ℕ, zero, suc, ◌+◌, ◌*◌, ◌≤◌, ◌<◌, List, ◌++◌, map, length, ap, sym, subst, ◌∙◌, arith, length-append, add-one}
 use Rattle.std.proofs.lemmas.List.{length-map, Elements.All-nil, Elements.All-append, Elements.All-map}
 use Rattle.std.specs.List.{All}

@@ -1,4 +1,4 @@
--- The patterns of a node, as the code makes and appends them.
+-- The patterns of a node, as the code makes and appends them. The fault `Size` doesn't occur.
 use Rattle.std.proofs.Common.{◌≡◌, ℕ, ◌^◌, ◌≤◌, ◌<◌, true, List, ◌++◌, map, length, refl, ap, ◌∙◌, arith}
 use Rattle.std.proofs.lemmas.{Bool.ltb-true, Simd.map-map}
 use Rattle.dd_pattern.specs.Filling.{Filled, filled}

@@ -1,5 +1,5 @@
 -- There is only one list that `IsStarredList` accepts. Each of its patterns belongs to a node of the rule, and the patterns of a node are the node's
--- minimal list. An output can hold the list.
+-- minimal list. An output can hold the list, if at each node the cells that the rule reads have at most 65,536 fillings.
 use Rattle.std.proofs.Common.{◌≡◌, ℕ, zero, suc, ◌*◌, ◌≤◌, ◌<◌, inl, inr, Bool, true, false, cond, Option, Some, None, List, [], ◌∷◌, ◌++◌, map, length, nat_eq, refl, ap, sym, subst, ◌∙◌, arith}
 use Rattle.std.proofs.lemmas.List.{map-append, append-nil}
 use Rattle.std.proofs.lemmas.List.Elements.{All-nil, All-cons, All-head, All-tail, All-append, All-weaker, All-contains_itself, All-map, filter-append}

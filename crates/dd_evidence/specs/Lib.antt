@@ -1,4 +1,4 @@
--- the answers to questions that have only one right answer
+-- the right answers about membership, forbidden patterns and minimal lists; each question has only one
 pub mod Answers
 -- cells, as answers write them
 pub mod Cells
@@ -6,5 +6,5 @@ pub mod Cells
 pub mod Tiles
 -- lists that are made node by node
 pub mod NodeLists
--- the patterns that a rule forbids, as answers list them
+-- the patterns that a rule forbids, and its minimal lists, as answers list them
 pub mod Lists

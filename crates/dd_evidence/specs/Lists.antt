@@ -1,4 +1,4 @@
--- The patterns that a rule forbids, as answers list them.
+-- The patterns that a rule forbids, and its minimal lists, as answers list them.
 use Rattle.std.specs.{Prelude.ℕ, Prelude.Option, Prelude.List, Prelude.map, Prelude.nat_eq, List.filter}
 use Rattle.dd_formula.specs.LocalRule.{LocalRule}
 use Rattle.dd_forbidden.specs.Breaking.{BreakingFillings}

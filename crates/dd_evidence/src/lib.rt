@@ -6,9 +6,9 @@
 //! A pattern gives allowed symbols to all, some or none of the cells that the rule reads at a node, and leaves out the others.
 //! It is forbidden if the rule is false at the node, whatever allowed symbols the other cells have. A forbidden pattern is
 //! minimal if it is no longer forbidden once any further cell is left out. The patterns of the minimal list are minimal, and
-//! together they forbid exactly what the rule forbids at the node. The list need not have all minimal patterns. An answer
-//! lists, node by node, either the breaking fillings, which are the forbidden patterns that leave out no cell, or the minimal
-//! list.
+//! together they forbid exactly what the rule forbids at the node. The list need not have all minimal patterns. An answer about
+//! forbidden patterns lists, node by node, the breaking fillings, which are the forbidden patterns that leave out no cell. An
+//! answer about minimal patterns has the minimal list of each node.
 #![tactic(auto)]
 
 mod laws;

@@ -1,4 +1,4 @@
--- The expansion of each kind of formula, and how many instances it has.
+-- The expansion of each kind of formula except the atoms, and how many instances it has.
 use Rattle.std.proofs.Common.{◌≡◌, ℕ, ◌+◌, List, [], ◌∷◌, ◌++◌, map, refl, ap, sym, ◌∙◌, arith}
 use Rattle.std.proofs.lemmas.List.Sums.{sum_by-cons}
 use Rattle.std.specs.List.{sum_by}

@@ -6,8 +6,8 @@ use dd_lattice::Cell;
 use dd_values::{Boxed, Items};
 use std::alloc::{AllocError, Global};
 
-/// A formula without variables, as a tree. It has a truth value at each position, since the cells of its leaves are
-/// relative to the position.
+/// A formula without variables, as a tree. Given the symbols of cells, it has a truth value at each position, since the
+/// cells of its leaves are relative to the position.
 #[derive(Debug, Drop)]
 pub enum Expanded {
     /// True everywhere, or false everywhere.

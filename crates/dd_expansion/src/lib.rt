@@ -2,7 +2,8 @@
 //! without variables: each quantifier is written out over the cells of its balls. (The ball of radius r round a cell consists
 //! of the cells that are at most r edges away.) The size of an expansion is the number of its instances: the expansion itself,
 //! its parts, their parts, and so on. Cells are listed in cell order: by z, then y, then x, then the node. A cell is in range
-//! if each coordinate of its position is at most 2^20 in absolute value.
+//! if each coordinate of its position is at most 2^20 in absolute value. The crate also finds the truth of an expansion, the
+//! cells of its leaves, and how many clauses it takes once it is written as gates of a circuit.
 #![tactic(auto, using(std::proofs::lemmas::Grind::common_steps))]
 
 mod atoms;

@@ -4,7 +4,7 @@ use Rattle.dd_topology.specs.Naming.{number_of}
 use Rattle.dd_faults.specs.{Tree.Word, Tree.Name, Tree.Fault, Tree.Known, Order.when}
 use Rattle.dd_written.specs.Values.{word_text, name_text}
 
--- the index of a name in a list of names
+-- the index of a name in a list of names; none if it isn't there
 abbrev pub place_of_name : List ℕ → List (List ℕ) → Name → Option ℕ
 place_of_name bytes names n = number_of names (name_text bytes n)
 
@@ -16,7 +16,7 @@ missing bytes names n = when (not (is_some (place_of_name bytes names n))) (Faul
 abbrev pub number_in : List ℕ → List (List ℕ) → Name → ℕ
 number_in bytes names n = unwrap_or (place_of_name bytes names n) 0
 
--- The number of a variable. The origin `o` has the number 0. The variables in scope are numbered from 1, the outermost first.
+-- The number of a variable. The variable `o` has the number 0. The variables in scope are numbered from 1, the outermost first. Other words have none.
 abbrev pub variable_of : List ℕ → List Word → Word → Option ℕ
 variable_of bytes scope w = if bytes_eq (word_text bytes w) (codes "o") then Some 0 else option_map (λ k. k + 1) (position (λ v. bytes_eq (word_text bytes v) (word_text bytes w)) scope)
 

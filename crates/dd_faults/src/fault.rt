@@ -51,14 +51,16 @@ pub enum Limit {
     /// A discharge has at most `MOST_VECTORS` vectors, with entries of at most `FARTHEST` in absolute value.
     Vectors,
     /// If a query asks for a rule's forbidden or minimal patterns, then at each node the cells that the rule reads have at most
-    /// `MOST_PATTERNS` fillings.
+    /// `MOST_PATTERNS` fillings (see `dd_counts`). Fillings with symbols that a node doesn't allow count too, here and in
+    /// `States`.
     Patterns,
-    /// A rule's transfer graph over a strip has at most `MOST_STATES` states, and there are at most `MOST_WINDOWS` windows. A
-    /// slice consists of the strip's cells with one value of x. A state is a filling of successive slices, and a window fills
-    /// one slice more.
+    /// A rule's transfer graph over a strip has at most `MOST_STATES` states, and there are at most `MOST_WINDOWS` windows (see
+    /// `dd_counts`). A slice consists of the strip's cells with one value of x. A state is a filling of successive slices, and
+    /// a window fills one slice more.
     States,
-    /// A box question asks whether a goal occurs in no configuration that obeys a rule. It takes at most `MOST_CLAUSES` clauses
-    /// on its largest box or torus. A query for the least weight on a torus takes at most `MOST_CLAUSES` clauses too.
+    /// A box question asks whether a goal occurs in no configuration that obeys a rule. There is an upper bound for the number
+    /// of its clauses, on its largest box or torus, and one for the number of clauses of a query for the least weight on a
+    /// torus (see `dd_question`). Both bounds are at most `MOST_CLAUSES`.
     Clauses,
 }
 
@@ -74,7 +76,7 @@ pub enum Fault {
     TwiceVector,
     /// The dimension, or a number of nodes, symbols, weights or entries, does not fit.
     Dimension,
-    /// A limit is exceeded.
+    /// A limit is passed: what is said at its variant doesn't hold.
     Size(Limit),
 }
 
@@ -126,7 +128,7 @@ pub(crate) fn note_if(found: &mut Found, holds: bool, fault: Fault)
     }
 }
 
-/// Notes that a limit is exceeded, if `passed` says so.
+/// Notes that a limit is passed, if `passed` says so.
 pub(crate) fn note_over(found: &mut Found, passed: bool, limit: Limit)
     ensures { found.new ≡ noted found.old (over passed limit) }
 {

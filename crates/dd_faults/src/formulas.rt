@@ -1,4 +1,4 @@
-//! The faults of formulas.
+//! The faults of formulas, and of the cases of automata.
 ghost use Rattle.std.specs.Prelude.{◌≡◌, [], ◌∷◌, ◌++◌, IfOk, OnOk};
 ghost use Rattle.std.specs.List.{flat_map};
 ghost use Rattle.dd_faults.specs.{Order.noted, Formulas.formula_faults, Commands.case_faults};

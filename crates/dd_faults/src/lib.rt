@@ -1,8 +1,9 @@
 //! The faults of well-formed commands: what can be wrong with a command that follows the grammar. The faults of a command form
 //! a list. Each has a rank. Unknown names have the lowest rank, then come repetitions, then wrong dimensions and wrong numbers
-//! of items, then exceeded limits, in the order of `Limit`. Faults of the same rank are listed in the order of the text. A
-//! command with faults is refused for one of them: the first in the list among those of the lowest rank. To find it, the faults
-//! are noted in the order of the list. A fault that is noted takes the place of the one kept so far only if its rank is lower.
+//! of items, then limits that are passed, in the order of `Limit`. Faults of the same rank are listed in the order of the text.
+//! A command with faults is refused for one of them: the first in the list among those of the lowest rank. To find it, the
+//! faults are noted in the order of the list. A fault that is noted takes the place of the one kept so far only if its rank is
+//! lower.
 //!
 //! The context of a command consists of the text of the script, the command's number, and what the commands before it have
 //! defined. It also says whether the script has a `topology` command. A scope is the list of the variables that enclosing

@@ -1,4 +1,5 @@
--- There is only one list of all breaking fillings, each once and in order. It has at most as many items as there are fillings.
+-- There is only one list of all breaking fillings, each once and in order. It has at most as many items as there are fillings, and all its symbols are
+-- in the alphabet.
 use Rattle.std.proofs.Common.{◌≡◌, ◌<◌, ◌≤◌, ◌+◌, ◌*◌, ◌^◌, ℕ, zero, suc, Bool, true, false, cond, List, [], ◌∷◌, ◌++◌, length, sym, subst, arith}
 use Rattle.std.proofs.{Math.Nat.pow-zero, Math.Nat.pow-succ', lemmas.Bool.and_parts, lemmas.Bool.false≢true}
 use Rattle.std.proofs.lemmas.{Cmp.nat_list_cmp_total, List.length-append}

@@ -11,7 +11,7 @@ use dd_formula::{Automaton, Cases, Rule, RuleFault};
 use dd_values::Items;
 use std::alloc::{AllocError, Global};
 
-/// The numbers that the rules of an automaton have in common.
+/// The numbers that the rules of a well-formed automaton have in common.
 #[derive(Clone, Copy)]
 pub struct CommonNumbers {
     /// The dimension of the topology.

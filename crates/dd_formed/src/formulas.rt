@@ -1,6 +1,6 @@
-//! Whether the variables, labels, nodes and symbols in a formula exist, and whether its terms and balls are within their
-//! limits. The module `depth` tests how deep the formula is. Here `scope` is the number of variables in scope. These are
-//! numbered from 0, and number 0 is the free variable.
+//! Whether a formula may become a rule: whether its variables, labels, nodes and symbols exist, its terms and balls are within
+//! their limits, and it isn't too deep. The module `depth` tests the last of these. Here `scope` is the number of variables in
+//! scope. These are numbered from 0, and number 0 is the free variable.
 ghost use Rattle.std.specs.Prelude.{◌≡◌, ◌+◌, ◌<◌, ◌^◌, ◌↔◌, ◌&&◌, IsTrue, All, length, nat_lt};
 ghost use Rattle.std.specs.List.{list_all};
 ghost use Rattle.dd_expansion.specs.Limits.{term_fits, ball_fits, balls_fit, formula_fits, depth, IsFormula};
@@ -132,7 +132,7 @@ impl Signature<'_> {
 
 /// Whether the formula is one that `Rule::new` takes, over this topology with `labels` labels and an alphabet of `symbols`
 /// symbols:
-/// - Its only free variable is number 0, and each variable, label, node and symbol in it exists.
+/// - No variable but number 0 is free in it, and each variable, label, node and symbol in it exists.
 /// - Its terms have at most 16 moves, and its quantifiers at most 4 balls, of radius at most 3.
 /// - It is at most 64 deep. A negation, an implication, an equivalence, a quantifier, or a conjunction or disjunction of two or
 ///   more parts is one deeper than its deepest part.

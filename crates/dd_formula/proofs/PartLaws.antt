@@ -1,4 +1,5 @@
--- The cells in the leaves of a rule's expansions are the cells that the rule reads. They show whether the rule is within the limit on reach.
+-- The cells in the leaves of a rule's expansions are the cells that the rule reads. They show whether the rule is within the limit on reach. A rule
+-- made from a well-formed formula is well formed if it is within the limits on instances and reach.
 use Rattle.std.proofs.Common.{◌≡◌, ◌≤◌, ℕ, ◌⊎◌, inl, inr, true, false, [], ◌∷◌, map, sym, subst, ◌∙◌}
 use Rattle.std.specs.List.{list_all}
 use Rattle.dd_lattice.specs.InOrder.{in_order}

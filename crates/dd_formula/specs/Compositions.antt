@@ -1,4 +1,4 @@
--- Compositions of automata, and why they are refused.
+-- Compositions of automata, and why they are refused. At the end, automata with given cases: what is needed to make one, and what then holds of it.
 use Rattle.std.specs.Prelude.{ℕ, ◌≤◌, ◌≡◌, true, false}
 use Rattle.dd_formula.specs.Automata.{CommonNumbers, Counted, IsAutomaton, cases_fit, counted, is_few, is_short, is_shallow}
 use Rattle.dd_formula.specs.declared.{automaton.Automaton.Automaton, automaton.Cases.Cases, fault.RuleFault.RuleFault}

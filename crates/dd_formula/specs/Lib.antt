@@ -10,17 +10,17 @@ pub mod Living
 pub mod Refusals
 -- automata and their values
 pub mod Automata
--- what is needed to evaluate an automaton at a cell
+-- what is needed to evaluate an automaton at a cell, and where the cells that it reads lie
 pub mod Values
--- compositions of automata, and why they are refused
+-- compositions of automata, and why they are refused; automata with given cases
 pub mod Compositions
 -- automata that are given by cases, made from formulas, and why they are refused
 pub mod ByCases
--- how many clauses encode a question about a rule
+-- an upper bound on the number of clauses that encode a question about a rule, and counts that are cut off at a limit
 pub mod Counts
--- how many clauses encode the value of an automaton
+-- how many clauses encode the value of an automaton, and how many say that two automata differ
 pub mod ValueCounts
--- what each step in evaluating a composition needs
+-- what each step in evaluating a composition needs; fillings that show the symbols of cells moved by a vector
 pub mod valuing
 -- lemmas on these definitions, with their proofs
 pub mod lemmas

@@ -1,5 +1,5 @@
--- How many clauses encode the value of an automaton. The value is computed by gates over signals. A signal is a variable of a circuit, or its
--- negation.
+-- How many clauses encode the value of an automaton, and how many say that two automata differ. The value is computed by gates over signals. A signal
+-- is a variable of a circuit, or its negation.
 use Rattle.std.specs.{Prelude.ℕ, Prelude.◌+◌, Prelude.◌*◌, Prelude.List, Prelude.map, Prelude.length, List.range_with_len}
 use Rattle.dd_lattice.specs.InOrder.{in_order}
 use Rattle.dd_expansion.specs.Leaves.{clause_count, total}

@@ -1,4 +1,4 @@
--- What is needed to evaluate an automaton at a cell.
+-- What is needed to evaluate an automaton at a cell, and where the cells that it reads lie.
 use Rattle.std.specs.{Prelude.ℕ, Prelude.◌<◌, Prelude.◌≡◌, Prelude.Bool, Prelude.true, Prelude.is_some, Prelude.List, List.list_all}
 use Rattle.dd_lattice.specs.{Place.Place, declared.position.Cell.Cell}
 use Rattle.dd_pattern.specs.Reading.{Look, HasSymbolsBelow}

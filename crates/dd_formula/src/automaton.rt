@@ -1,4 +1,5 @@
-//! Cellular automata, given by cases or composed: the cells that they read, their instances and their depth.
+//! Cellular automata, given by cases or composed: their copies, the cells that they read, their instances, the number of nodes
+//! of their rules, and their depth.
 ghost use Rattle.std.specs.Prelude.{◌≡◌, ◌+◌, ◌<◌, true, length, IfOk, MatchOption, map};
 ghost use Rattle.std.specs.List.{list_all, flat_map};
 ghost use Rattle.std.specs.List.Sorted.{IsStrictlySortedBy};
@@ -200,8 +201,8 @@ impl Automaton {
         Ok(plus(MOST_INSTANCES, plus(MOST_INSTANCES, first, second), rest))
     }
 
-    /// The sum, over the cells, of the automaton's number of instances at the cell's node; or `MOST_INSTANCES + 1` if the sum is
-    /// greater than `MOST_INSTANCES`.
+    /// The sum, over the cells, of the automaton's number of instances at the cell's node; or `MOST_INSTANCES + 1` if the sum
+    /// is greater than `MOST_INSTANCES`.
     #[cycle(instances)]
     pub(crate) fn instances_from(&self, alloc: Global, cells: &[Cell]) -> Result<u32, AllocError>
         requires { HasCells self.now cells.now }

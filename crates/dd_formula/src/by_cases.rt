@@ -21,8 +21,8 @@ use dd_values::Items;
 use std::alloc::{AllocError, Global};
 
 impl Automaton {
-    /// The automaton that gives each cell the symbol of the first case whose formula is true there, or `otherwise` if there is no
-    /// such case.
+    /// The automaton that gives each cell the symbol of the first case whose formula is true there, or `otherwise` if there is
+    /// no such case.
     ///
     /// # Errors
     /// `Instances` if the automaton has more than 20,000 instances at some node; else `Reach` if a case reads a cell that lies
@@ -54,7 +54,8 @@ impl Automaton {
     }
 }
 
-/// The number of instances of the formula's expansion at a node, or `MOST_INSTANCES + 1` if there are more than `MOST_INSTANCES`.
+/// The number of instances of the formula's expansion at a node, or `MOST_INSTANCES + 1` if there are more than
+/// `MOST_INSTANCES`.
 fn size_at(
     alloc: Global,
     topology: &Topology,
@@ -113,7 +114,8 @@ fn has_few(
     Ok(true)
 }
 
-/// The rules made from the formulas of the cases, each with the symbol of its case.
+/// The rules made from the formulas of the cases, each with the symbol of its case. The fault is `Reach` if one of them reads a
+/// cell that lies too far away.
 fn rules_of(
     alloc: Global,
     topology: &Topology,

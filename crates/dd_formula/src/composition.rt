@@ -1,5 +1,5 @@
-//! Compositions of two automata, and tests of their limits: on the number of instances (see `Automaton::instances`), on the reach
-//! (how far away a composition reads cells), and on the depth (how deep compositions are nested).
+//! Compositions of two automata, and tests of their limits: on the number of instances (see `Automaton::instances`), on the
+//! reach (how far away a composition reads cells), and on the depth (how deep compositions are nested).
 ghost use Rattle.std.specs.Prelude.{◌≡◌, true, IfOk, IfErr, OnOk};
 ghost use Rattle.dd_formula.specs.Automata.{IsAutomaton, is_few, is_short, is_shallow};
 ghost use Rattle.dd_formula.specs.Compositions.{AreAutomata, HaveNodes, OverBoth, StandFor, PassesDepth, IsCompositionFault, composition};
@@ -18,9 +18,9 @@ impl Automaton {
     /// dimension, number of nodes and alphabet.
     ///
     /// # Errors
-    /// `Instances` if the composition has more than 20,000 instances at some node; else `Reach` if it reads a cell that lies more
-    /// than 16 away along an axis; else `Depth` if compositions are nested more than 64 deep. `Memory` if memory ran out. Each
-    /// error also returns both automata.
+    /// `Instances` if the composition has more than 20,000 instances at some node; else `Reach` if it reads a cell that lies
+    /// more than 16 away along an axis; else `Depth` if compositions are nested more than 64 deep. `Memory` if memory ran out.
+    /// Each error also returns both automata.
     pub fn composed(
         alloc: Global,
         outer: Automaton,

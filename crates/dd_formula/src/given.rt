@@ -27,7 +27,8 @@ impl Automaton {
     }
 }
 
-/// Whether the automaton with these cases has at most `MOST_INSTANCES` instances at each node.
+/// Whether the automaton with these cases has at most `MOST_INSTANCES` instances at each node. The contract also says that if
+/// so, the automaton reads only cells within the limit on reach.
 fn has_few(cases: &Cases, nodes: u32) -> bool
     requires { HaveNumbers cases.now nodes }
     ensures value { result ≡ is_few nodes (counted (Automaton.Given cases.now)) }

@@ -1,4 +1,5 @@
-//! What a rule stores for each node: the expansion, and the cells that the rule reads.
+//! What a rule stores, above all its expansion at each node and the cells that it reads there, and copies of these two lists.
+//! The limits on instances and on reach, for rules and automata.
 ghost use Rattle.std.specs.Prelude.{◌≡◌, ◌<◌, ◌≤◌, ◌⊎◌, length, true, false, map, IfOk, IfErr, OnOk};
 ghost use Rattle.std.specs.List.{list_all};
 ghost use Rattle.dd_lattice.specs.InOrder.{in_order};
@@ -112,7 +113,8 @@ fn reads_of(alloc: Global, expansion: &Expanded) -> Result<Items<Cell>, RuleFaul
     Ok(Items::from_vec(cells))
 }
 
-/// For each of the expansions, the cells that it reads, in cell order.
+/// For each of the expansions, the cells that it reads, in cell order. The fault is `Reach` if one of these cells lies more
+/// than `MOST_REACH` away.
 fn reads_at_nodes(alloc: Global, expansions: &[Expanded]) -> Result<Items<Items<Cell>>, RuleFault>
     ensures ok { IfOk result (λ reads. reads ≡ map (λ e. in_order (leaf_cells e)) expansions.now) }
     ensures near { OnOk result (list_all (λ e. list_all is_near (leaf_cells e)) expansions.now ≡ true) }

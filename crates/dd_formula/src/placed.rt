@@ -18,8 +18,8 @@ impl Cases {
 }
 
 impl Automaton {
-    /// Does nothing. Its contract says that each cell that the automaton reads has a position in Z^d and one of the nodes of its
-    /// rules.
+    /// Does nothing. Its contract says that each cell that the automaton reads has a position in Z^d and one of the nodes of
+    /// its rules.
     pub fn reads_are_placed(&self)
         ensures { IsPlaced self.now }
     {

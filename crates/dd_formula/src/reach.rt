@@ -31,7 +31,7 @@ pub fn farthest(cells: &[Cell]) -> u32
 
 impl Rule {
     /// How far away the rule reads cells when it is evaluated at the origin: the greatest distance along any axis, over all
-    /// nodes. Allocates nothing.
+    /// nodes. 0 if it reads no cell. Allocates nothing.
     pub fn reach(&self) -> u32
         ensures value { result ≡ reach self.now }
         ensures near { result ≤ 16 }
@@ -47,7 +47,7 @@ impl Rule {
 
 impl Automaton {
     /// How far away the automaton reads cells when it is evaluated at the origin: the greatest distance along any axis, over
-    /// the first `nodes` nodes. The rules of the automaton must have at least that many.
+    /// the first `nodes` nodes. 0 if it reads no cell there. The rules of the automaton must have at least that many nodes.
     pub fn reach_at(&self, alloc: Global, nodes: u32) -> Result<u32, AllocError>
         requires { HasNodes self.now nodes }
         ensures value { IfOk result (λ n. n ≡ automaton_reach nodes self.now) }
@@ -60,8 +60,8 @@ impl Automaton {
         Ok(radius)
     }
 
-    /// How far away the automaton reads cells when it is evaluated at the origin: the greatest distance along any axis, over all
-    /// nodes. 0 if the automaton has no rule.
+    /// How far away the automaton reads cells when it is evaluated at the origin: the greatest distance along any axis, over
+    /// all nodes. 0 if it reads no cell, as when it has no rule.
     pub fn reach(&self, alloc: Global) -> Result<u32, AllocError>
         requires { (s : CommonNumbers) × IsAutomaton s self.now }
         ensures value { IfOk result (λ n. (s : CommonNumbers) → IsAutomaton s self.now → n ≡ automaton_reach s.nodes self.now) }

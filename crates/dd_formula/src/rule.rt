@@ -55,8 +55,8 @@ impl Rule {
     /// The rule with this formula over this topology. `sets` says which symbols of the alphabet each node allows.
     ///
     /// # Errors
-    /// `Instances` if the expansion at some node has more than 20,000 instances; else `Reach` if the rule reads a cell that lies
-    /// more than 16 away along an axis. `Memory` if memory ran out.
+    /// `Instances` if the expansion at some node has more than 20,000 instances; else `Reach` if the rule reads a cell that
+    /// lies more than 16 away along an axis. `Memory` if memory ran out.
     pub fn new(
         alloc: Global,
         topology: &Topology,

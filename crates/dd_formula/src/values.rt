@@ -54,7 +54,8 @@ impl Automaton {
         Ok(Some(symbol))
     }
 
-    /// The automaton's value at this node of the origin. `near` must have a symbol for each cell that the automaton reads there.
+    /// The automaton's value at this node of the origin. `near` must have a symbol for each cell that the automaton reads
+    /// there.
     #[cycle(value)]
     pub(crate) fn value_near(
         &self,
@@ -73,9 +74,9 @@ impl Automaton {
         }
     }
 
-    /// The value of the composition at this node of the origin. The inner automaton is evaluated at each cell that the outer one
-    /// reads. Then the outer one is evaluated, with these values as the cells' symbols. `near` must have a symbol for each cell
-    /// that the composition reads.
+    /// The value of the composition at this node of the origin. The inner automaton is evaluated at each cell that the outer
+    /// one reads. Then the outer one is evaluated, with these values as the cells' symbols. `near` must have a symbol for each
+    /// cell that the composition reads.
     #[cycle(value)]
     pub(crate) fn composed_value(
         alloc: Global,

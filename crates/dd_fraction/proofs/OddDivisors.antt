@@ -1,4 +1,5 @@
--- If one of two numbers is odd, factors of 2 in the other don't affect their greatest common divisor.
+-- Laws of greatest common divisors for the binary algorithm. If one of two numbers is odd, factors of 2 in the other don't affect their greatest
+-- common divisor.
 use Rattle.std.proofs.Common.{◌≡◌, ℕ, zero, suc, ◌+◌, ◌-◌, ◌*◌, ◌/◌, ◌%◌, ◌^◌, ◌<◌, ◌≤◌, sym, ap, subst, ◌∙◌, arith}
 use Rattle.std.proofs.lemmas.Nat.Bits.{bit_at-trailing_zeros, bit_at-suc, bit_at_lowest}
 use Rattle.std.proofs.lemmas.Nat.Gcd.{IsGcd-swap, IsGcd-from_sub, same_from_IsGcd}

@@ -24,7 +24,7 @@ pub record IsFraction (a : Exact) : Type 0 where
   pub bounded : unsigned_abs a.num < 2 ^ 127
   pub coprime : greatest_common (unsigned_abs a.num) a.den ≡ 1
 
--- the bounds of a fraction whose numerator and denominator fit in 16 bits
+-- bounds that hold for each fraction whose numerator and denominator fit in 16 bits
 pub record IsSmall (a : Exact) : Type 0 where
   pub above : 0 < a.den
   pub below : a.den < 2 ^ 16

@@ -1,5 +1,5 @@
-//! The greatest common divisor, by Euclid's algorithm and then the binary algorithm. Once both numbers fit in 64 bits, the rest
-//! is done with machine words.
+//! The greatest common divisor, by Euclid's algorithm and then the binary algorithm, and quotients. Once both numbers fit in 64
+//! bits, the rest is done with machine words.
 ghost use Rattle.std.specs.Prelude.{◌≡◌, ℕ, ◌%◌, ◌<◌, ◌≤◌, ◌/◌, ◌^◌};
 ghost use Rattle.std.specs.Int.RustNames.{unsigned_abs, int_div};
 ghost use lib.IntN.{pos};
@@ -29,8 +29,9 @@ pub fn greatest_common_divisor(a: u128, b: u128) -> u128
     word_divisor(y as u64, (x % y) as u64) as u128
 }
 
-/// The greatest common divisor of two machine words. Each call makes one step of Euclid's algorithm. If both numbers are even
-/// after this step, the call also takes out a common factor of 2. Once one of them is odd, the binary algorithm takes over.
+/// The greatest common divisor of two machine words. A call makes one step of Euclid's algorithm, unless `b` is 0 already. If
+/// after this step both numbers are even and neither is 0, the call also takes out a common factor of 2. Once one of them is
+/// odd, the binary algorithm takes over.
 fn word_divisor(a: u64, b: u64) -> u64
     ensures { result ≡ greatest_common a b }
 {

@@ -1,5 +1,6 @@
-//! Laws of exact fractions, as contracts of calls that do nothing. Fractions with the same lowest terms count as equal: sums
-//! and products are in lowest terms, and bringing an operand to lowest terms doesn't change them. The contracts say this too.
+//! Laws of exact fractions, as contracts of calls that do nothing. The numerators and denominators may be of any size.
+//! Fractions with the same lowest terms count as equal: sums and products are in lowest terms, and bringing an operand to
+//! lowest terms doesn't change them. The contracts say this too.
 ghost use Rattle.dd_fraction.specs.Laws.{AreSumLaws, AreProductLaws, AreOppositeLaws, AreOrderLaws, AreOrderedFieldLaws};
 
 /// Does nothing; its contract says that addition is commutative and associative, that adding 0 changes nothing, and that a
@@ -21,15 +22,16 @@ pub fn opposite_laws()
     ensures { AreOppositeLaws }
 {}
 
-/// Does nothing; its contract says that the order is reflexive, transitive, antisymmetric and total, and that
-/// `Fraction::compare` follows it.
+/// Does nothing; its contract says that the order is reflexive, transitive, antisymmetric and total, how it goes together with
+/// the strict order, and that `Fraction::compare` follows both.
 pub fn order_laws()
     ensures { AreOrderLaws }
 {}
 
 /// Does nothing; its contract says that the order is preserved by adding, and by multiplying by a factor of at least 0, and
-/// that taking opposites reverses it. It also says that a is at most b exactly when b - a is at least 0, and gives the signs of
-/// sums, products and inverses.
+/// that taking opposites reverses it. It also says that a is at most b exactly when b - a is at least 0, and that sums and
+/// products of fractions of at least 0 are at least 0. Products and inverses of positive fractions are positive, and so is the
+/// sum of a positive fraction and one of at least 0.
 pub fn ordered_field_laws()
     ensures { AreOrderedFieldLaws }
 {}

@@ -6,7 +6,8 @@
 //! YES answers a box question, or both box questions of an equality. A box question has a premise, which is a rule, and a goal:
 //! a property of a position, such as that another rule is broken there. YES says that the goal holds nowhere in a configuration
 //! that obeys the premise everywhere. CONJUGATE answers a query about a conjugacy. It says that two automata are inverse maps
-//! between the configurations that obey one rule and those that obey another.
+//! between the configurations that obey one rule and those that obey another. The crate also has two configurations to try this
+//! with, the spike and the checkerboard, and it gives those that a script defines.
 #![tactic(auto)]
 
 mod excluding;

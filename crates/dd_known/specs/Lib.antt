@@ -1,6 +1,6 @@
 -- the types of what a script has defined so far
 pub mod Tree
--- the limits on what a script may write
+-- limits on what a script may write
 pub mod Limits
 -- the dimension of a script's lattice, and the names that a word of a query may be
 pub mod Known

@@ -1,4 +1,4 @@
--- The limits on what a script may write. The header of `src/limits.rt` explains the words.
+-- Limits on what a script may write. The header of `src/limits.rt` explains the words.
 use Rattle.std.specs.Prelude.{ℕ}
 
 -- the greatest dimension

@@ -4,7 +4,8 @@ use dd_topology::{Names, Sets, Topology};
 use dd_values::{Items, Limits};
 use dd_written::Text;
 
-/// What formulas may refer to: nodes, symbols, and moves, whose labels come from the topology.
+/// What rules and automata are made over: the nodes, the symbols, the topology, whose labels are the moves of formulas, and
+/// which symbols each node allows.
 #[derive(Drop)]
 pub struct Setting {
     /// The names of the nodes, in the order of their numbers.

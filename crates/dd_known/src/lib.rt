@@ -1,5 +1,5 @@
 //! What a script has defined before one of its commands: its topology, alphabets, weights, limits of searches, and names. The
-//! crate also has the limits on what a script may write.
+//! crate also has limits on what a script may write; `dd_values` has others.
 #![tactic(auto)]
 
 mod known;

@@ -1,7 +1,7 @@
-//! The limits on what a script may write. A term names a cell by the moves that lead there from the cell of a variable. A
-//! quantifier ranges over the union of its balls. A torus has periods along every axis, and a strip along every axis but the
-//! first. A discharge shows a lower bound on a density by moving weight: for each vector v of a list, each position p may give
-//! weight to the position p + v.
+//! Limits on what a script may write. (Others, such as those on weights and radii, are in `dd_values`.) A term names a cell by
+//! the moves that lead there from the cell of a variable. A quantifier ranges over the union of its balls. A torus has periods
+//! along every axis, and a strip along every axis but the first. A discharge shows a lower bound on a density by moving weight:
+//! for each vector v of a list, each position p may give weight to the position p + v.
 
 /// The greatest dimension.
 pub const MOST_AXES: u32 = 3;

@@ -41,7 +41,7 @@ pub either_from_extended : (axis : Axis) (c : ℤ) (ps copy : List Place) → Is
 either_from_extended axis c ps copy region p (inl h) = inl h
 either_from_extended axis c ps copy region p (inr h) = inr ((region.members p).1 h)
 
--- the copy moved by low steps lies in each run that starts at low
+-- the copy moved by low steps lies in each run from low to a greater number; the run from low to low + 1 lies in this copy (`moved_from_run`)
 pub run_from_moved : (axis : Axis) (low high : ℤ) (ps : List Place) → low <ℤ high → (p : Place) → IsMoved ps (along axis low) p → IsStretched axis low high ps p
 run_from_moved axis low high ps some p h = record {
   origin = h.0;

@@ -10,7 +10,8 @@ use Rattle.dd_lattice.specs.listing.Merge.{next_position, from_left, from_right}
 use Rattle.dd_lattice.specs.lemmas.InOrderLaws.{places_equal, place_total}
 use Rattle.dd_values.specs.lemmas.Members.{All-from_contains, Contains-first, Contains-later, Contains-cons_cases, Contains-nil, sorted_append, sorted_push, sorted_first, sorted_rest}
 
--- `made` is the union of `left` and `right`, the parts of the two lists that the walk has taken; its positions come before the rest of either list
+-- `made` is ascending, and is the union of `left` and `right`, the parts of the two lists that the walk has taken. The rest of each list is ascending,
+-- and comes after all positions of `made`.
 pub record IsMerged (left left_rest right right_rest made : List Place) : Type 0 where
   pub ascending : IsStrictlySortedBy place_cmp made
   pub left_ascending : IsStrictlySortedBy place_cmp left_rest

@@ -74,7 +74,7 @@ gap a b = unsigned_abs (b -ℤ a)
 abbrev pub most_gap : ℕ
 most_gap = 2 * most_coordinate
 
--- the number of coordinates from a to b
+-- the number of coordinates from a to b, if a is at most b
 abbrev pub span : ℤ → ℤ → ℕ
 span a b = gap a b + 1
 
@@ -82,18 +82,18 @@ span a b = gap a b + 1
 abbrev pub volume : Bounds → ℕ
 volume b = span b.low.x b.high.x * (span b.low.y b.high.y * span b.low.z b.high.z)
 
--- the number of p in the box: how many positions of the box come before p in cell order
+-- the number of p, a position of the box: how many positions of the box come before p in cell order
 abbrev pub index_in : Bounds → Place → ℕ
 index_in b p = (gap b.low.z p.z * span b.low.y b.high.y + gap b.low.y p.y) * span b.low.x b.high.x + gap b.low.x p.x
 
--- the position with the number i in the box
+-- the position with the number i in the box, if i is below the volume
 abbrev pub place_in : Bounds → ℕ → Place
 place_in b i =
     let w = span b.low.x b.high.x in
     let h = span b.low.y b.high.y in
     place (b.low.x +ℤ pos (i % w)) (b.low.y +ℤ pos (i / w % h)) (b.low.z +ℤ pos (i / w / h))
 
--- the first n positions of a box
+-- the first n positions of a box, if it has at least n
 abbrev pub first_positions : Bounds → ℕ → List Place
 first_positions b zero = []
 first_positions b (suc n) = first_positions b n ++ place_in b n ∷ []

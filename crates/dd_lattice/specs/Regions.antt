@@ -1,4 +1,5 @@
--- Regions: finite sets of positions in range, each a strictly ascending list.
+-- Regions: finite sets of positions in range, each a strictly ascending list. Also sets of positions in general, the faults of regions, and the sets
+-- that the operations on regions give.
 use Rattle.std.specs.{Prelude.ℕ, Prelude.◌≡◌, Prelude.◌↔◌, Prelude.◌⊎◌, Prelude.◌-ℤ◌, Prelude.List, List.All, List.Contains}
 use Rattle.std.specs.List.Sorted.{IsStrictlySortedBy}
 use Rattle.dd_lattice.specs.{Place.Place, Place.place, Place.moved, Place.IsInRange, Order.place_cmp, Boxes.IsCentred}

@@ -37,8 +37,8 @@ walk_upper edges n k (x ∷ es) u v a all among walk is =
 abbrev pub IsAbove : List Edge → ℕ → ℕ → ℕ → ℕ → ℕ → Type 0
 IsAbove edges n v end m l = (k before : ℕ) → k < n → least edges n k v ≡ Some before → end * l ≤ before * l + m * (n - k)
 
--- Let a longest walk to v have the weight `end` and pass through a cycle. If no rise of v to this weight has a mean above m / l, the mean of the
--- cycle is at most m / l.
+-- Let a longest walk to v have the weight `end`. Let it consist of a lightest walk to a state on a cycle, then the cycle, then the rest. If no rise of
+-- v to this weight has a mean above m / l, the mean of the cycle is at most m / l.
 pub cycle_light : (edges : List Edge) (n i x v a end m l : ℕ) (cycle rest : List Edge) → All (IsEdgeOf n) edges →
     AreAmong edges rest → IsWalk x rest v → least edges n i x ≡ Some a → 0 < length cycle → (i + length cycle) + length rest ≡ n →
     (a + edges_weight cycle) + edges_weight rest ≡ end → IsAbove edges n v end m l → edges_weight cycle * l ≤ m * length cycle

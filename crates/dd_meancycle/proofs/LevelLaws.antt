@@ -1,4 +1,4 @@
--- How a level follows from the one before it.
+-- The first level, and how each other level follows from the one before it.
 use Rattle.std.proofs.Common.{◌≡◌, ℕ, zero, suc, ◌+◌, ◌*◌, ◌<◌, ◌≤◌, min, Bool, true, false, cond, eqb, List, [], ◌∷◌, ◌++◌, length, get_or, set, replicate, Option, Some, None, arith, refl, sym, ap, ◌∙◌, subst, inl, inr, get_or-set_same, get_or-set_other, ◌≢◌}
 use Rattle.std.proofs.lemmas.List.{length-set, get_or_past, get_or-replicate, length-replicate}
 use Rattle.std.proofs.lemmas.{List.Elements.All-head, List.Elements.All-tail, Bool.cases_eq, Bool.cases_lt}
@@ -6,7 +6,7 @@ use Rattle.std.specs.{Prelude.◌⊎◌, List.Contains, List.All, List.fold}
 use Rattle.dd_meancycle.specs.declared.edges.Edge.{Edge}
 use Rattle.dd_meancycle.specs.table.Levels.{at, lowered, lower_at, relaxed, level, row, least, IsAtMost, IsUpToIn, IsRowUpTo, IsEdgeOf}
 
--- a walk of the previous row, followed by an edge, is a walk to v of the weight b
+-- a lightest walk of the previous row, followed by an edge, is a walk to v of the weight b
 pub record Arrives (edges : List Edge) (previous : List (Option ℕ)) (v b : ℕ) : Type 0 where
   pub edge : Edge
   pub is_in : Contains edges edge

@@ -1,5 +1,5 @@
-//! The table of Karp (1978): for each length and each state, the least weight of a walk of this length to this state. The
-//! walks may start at any state.
+//! The table of Karp (1978): for each length up to the number of states, and for each state, the least weight of a walk of this
+//! length to this state, if there is such a walk. The walks may start at any state.
 ghost use Rattle.std.specs.Prelude.{◌≡◌, ℕ, ◌+◌, ◌<◌, ◌^◌, length, IfOk, slice_index_or, replicate, vec_len, Some, None, []};
 ghost use Rattle.std.specs.List.{fold, All};
 ghost use Rattle.dd_meancycle.specs.table.Levels.{level, relaxed, lowered, IsRowUpTo, IsEdgeOf, AreRows, level_weight_at};

@@ -8,8 +8,8 @@
 //! ranks show this. They are natural numbers, one for each state, and the rank falls along each edge.
 //!
 //! `least_mean` first searches for a cycle of least mean and potentials, or for ranks, and checks what it finds. If the check
-//! fails, it reads them off a table, which is slower. For each length and each state, this table has the least weight of a walk
-//! of this length to this state (Karp 1978).
+//! fails, it reads them off a table, which is slower. For each length up to the number of states, and for each state, this
+//! table has the least weight of a walk of this length to this state, if there is such a walk (Karp 1978).
 #![tactic(auto, using(std::proofs::lemmas::Grind::common_steps))]
 
 mod confirming;

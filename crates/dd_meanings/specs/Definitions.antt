@@ -28,7 +28,8 @@ case_of x c = (formula_of x c.condition [], symbol_of x c.symbol)
 abbrev pub automaton_of : Context → List Case → Name → Automaton
 automaton_of x cases symbol = by_cases x.known.setting.topology x.known.setting.sets (map (case_of x) cases) (symbol_of x symbol)
 
--- The automaton with this name. If no automaton has the name, it is the first automaton, or one without cases if there are no automata.
+-- The automaton with this name: the item of the list `automata` at the name's number, which is 0 if no automaton has the name. If the list has no such
+-- item, it is an automaton without cases.
 abbrev pub automaton_named : Context → List Automaton → Word → Automaton
 automaton_named x automata w = unwrap_or (slice_get automata (number_in x.text x.known.automata (Name.Word w))) (automaton.Given (record { cases = []; otherwise = 0 }))
 

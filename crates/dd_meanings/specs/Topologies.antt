@@ -1,4 +1,4 @@
--- The topologies that commands give.
+-- The topologies that commands give, and the names of nodes that come with a built-in topology.
 use Rattle.std.specs.Prelude.{ℕ, ◌==◌, List, [], ◌∷◌, ◌++◌, length, map, if◌then◌else◌, codes, bytes_eq}
 use Rattle.std.specs.List.{list_any}
 use Rattle.dd_topology.specs.{declared.edge.Edge.Edge, Grid.Grid, Grid.grid, Builtin.grid_of}

@@ -5,8 +5,8 @@
 //! or is too deep (nests too many compositions).
 //!
 //! The context of a command has the text of the script and what is known: what the commands before it defined, with defaults
-//! for the rest. The setting is the part that formulas refer to: the nodes, the symbols, the topology, and which symbols each
-//! node allows.
+//! for the rest. The setting is the part over which rules and automata are made: the nodes, the symbols, the topology, and
+//! which symbols each node allows.
 #![tactic(auto, using(crate::proofs::Nothing::parts))]
 
 mod atoms;

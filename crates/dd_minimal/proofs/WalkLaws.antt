@@ -91,7 +91,8 @@ some_holds table m (Some t ∷ ps) b f keeps at h =
       holds = rest.holds;
     }
 
--- ---- with a rule's table of outcomes, a pattern is enough exactly when all fillings with allowed symbols that agree with it break the rule
+-- ---- with a rule's table of outcomes, a pattern whose symbols are in the alphabet is enough exactly when all fillings with allowed symbols that agree
+-- with it break the rule
 
 false_of : (al t : Bool) → al ≡ true → does_hold (cond al (of_truth t) Barred) ≡ false → t ≡ false
 false_of true true is h = absurd (false≢true (sym h))

@@ -30,9 +30,9 @@ pub(crate) fn outcomes(alloc: Global, rule: &Rule, node: u32) -> Result<Items<Ou
     Ok(table)
 }
 
-/// Appends the outcomes of the fillings that begin with `symbols`, which are allowed. The cells of `rest` have no symbol yet.
-/// `formula` is the rule's formula at the node without quantifiers, with a number in place of each cell: the cell's index among
-/// the cells that are read.
+/// Appends the outcomes of the fillings that begin with `symbols`, which are taken to be allowed. The cells of `rest` have no
+/// symbol yet. `formula` is the rule's formula at the node without quantifiers, with a number in place of each cell: the cell's
+/// index among the cells that are read.
 fn fill(
     rule: &Rule,
     node: u32,

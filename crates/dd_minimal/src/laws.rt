@@ -26,7 +26,7 @@ pub fn all_new()
     ensures { (r : LocalRule) (a : ℕ) (ps : List (List (Option ℕ))) → IsMinimalList r a ps → AreNew r a [] ps }
 {}
 
-/// Does nothing. Its contract says that there is at most one minimal list.
+/// Does nothing. Its contract says that a rule has at most one minimal list at a node.
 pub fn one_list()
     ensures { (r : LocalRule) (a : ℕ) (ps qs : List (List (Option ℕ))) → IsMinimalList r a ps → IsMinimalList r a qs → ps ≡ qs }
 {

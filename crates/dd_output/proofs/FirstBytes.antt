@@ -51,7 +51,7 @@ Row = Keyed IsWritable first_of
 
 -- ---- kinds whose texts begin alike
 
--- for the six kinds that share a row with another kind, the byte after the part that the texts of both share; 0 for all other kinds
+-- `No` and `Nothing`, `List` and `Least`, and `Bound` and `Broken` share a row: the byte after the part that both texts share; 0 for all other answers
 abbrev pub second_of : Answer → ℕ
 second_of (answer.No side periods shear symbols) = 32
 second_of (answer.Nothing steps) = 78

@@ -14,7 +14,7 @@ digit_bounds b is =
 is_digit_from : (b : ℕ) → 48 ≤ b → b ≤ 57 → is_digit b ≡ true
 is_digit_from b low high = and_from (nat_le 48 b) (nat_le b 57) (le-leb 48 b low) (le-leb b 57 high)
 
--- the text of a number with one more digit
+-- the text of a number above 0 with one more digit, if the number with this digit is below 2^64
 decimal_more : (n d : ℕ) → 0 < n → d < 10 → n * 10 + d < 2 ^ 64 → decimal (n * 10 + d) ≡ decimal n ++ (48 + d) ∷ []
 decimal_more n d some digit fits =
     let quotient : (n * 10 + d) / 10 ≡ n = omega arith in

@@ -15,7 +15,7 @@ abbrev pub are_apart : {A : Type 0} → ℕ × Form A → List (ℕ × Form A) �
 are_apart row [] = true
 are_apart row (next ∷ rows) = not (is_among row.0 next rows) && are_apart next rows
 
--- a fits, and its key is c; the key of a value is the byte with which its text begins
+-- a fits, and its key is c; in this file, the key of a value is the byte with which its text begins
 abbrev pub Keyed : {A : Type 0} → (A → Type 0) → (A → ℕ) → ℕ → A → Type 0
 Keyed F key c a = F a × (key a ≡ c)
 

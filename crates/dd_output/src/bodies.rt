@@ -1,5 +1,5 @@
-//! Reads the lines of an answer, without the word `query` and the query's number. Here a `YES` is an answer that begins with this
-//! word. The other kinds of answers are named in the same way.
+//! Reads the lines of an answer, without the word `query` and the query's number. Here a `YES` is an answer that begins with
+//! this word. The other kinds of answers are named in the same way.
 ghost use Rattle.std.specs.Prelude.{◌≡◌, ◌≤◌, IfOk};
 ghost use Rattle.dd_certificate.specs.Bounds.{most_number};
 ghost use Rattle.dd_output.specs.reading.Stops.{Gives, number_at, many_at, copies};

@@ -1,5 +1,6 @@
-//! Reads answers about the least weight of the configurations that obey a rule and have given periods: `LEAST` with this
-//! weight, or `NONE` if there are no such configurations. The weight of such a configuration is that of the box that repeats.
+//! Reads answers about the least weight of the configurations that obey a rule and have given periods and no shear: `LEAST`
+//! with this weight, or `NONE` if there are no such configurations. The weight of such a configuration is that of the box that
+//! repeats.
 ghost use Rattle.std.specs.Prelude.{◌≡◌};
 ghost use Rattle.dd_output.specs.reading.Stops.{Gives, choice_at};
 ghost use Rattle.dd_output.specs.reading.Grammar as grammar;

@@ -48,7 +48,8 @@ fn next(number: u64, digit: u8) -> u128
     u128::from(number) * 10 + u128::from(digit - b'0')
 }
 
-/// Whether the number with this digit appended is at most the bound. Most numbers are below `SHORT`. For these, 64 bits suffice.
+/// Whether the number with this digit appended is at most the bound. Most numbers are below `SHORT`. For these, 64 bits
+/// suffice.
 fn has_room(bound: u64, number: u64, digit: u8) -> bool
     requires { is_digit digit ≡ true }
     ensures { result ≡ nat_le (number * 10 + (digit - 48)) bound }
@@ -60,8 +61,8 @@ fn has_room(bound: u64, number: u64, digit: u8) -> bool
     }
 }
 
-/// Whether the byte can be the next digit of the number. The number 0 has no next digit. With the digit appended, the number has
-/// to be at most the bound.
+/// Whether the byte can be the next digit of the number. The number 0 has no next digit. With the digit appended, the number
+/// has to be at most the bound.
 fn goes_on(bound: u64, number: u64, byte: u8) -> bool
     ensures { result ≡ goes_on bound number byte }
 {

@@ -122,8 +122,8 @@ pub(crate) fn end_at(least: u64, index: u64) -> u8
     }
 }
 
-/// The other byte that can end the number with this index, from 0. The line has at most `most` numbers, or may have any number of
-/// them if `most` is `None`. The byte is a line feed if no more numbers may follow, and a space otherwise.
+/// The other byte that can end the number with this index, from 0. The line has at most `most` numbers, or may have any number
+/// of them if `most` is `None`. The byte is a line feed if no more numbers may follow, and a space otherwise.
 pub(crate) fn other_at(most: Option<u64>, index: u64) -> u8
     ensures { result ≡ other_at most index }
 {

@@ -1,4 +1,4 @@
-//! What a run writes.
+//! What a run of a script writes.
 use dd_certificate::Answer;
 use dd_values::Items;
 

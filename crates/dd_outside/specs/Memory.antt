@@ -1,4 +1,4 @@
--- What a source and a sink in memory hold, and how they were set up.
+-- What a source and a sink in memory hold, how they were set up, and how many of their calls were made and failed. These counts stop at 2^64 - 1.
 use Rattle.std.specs.Prelude.{ℕ, ◌+◌, ◌-◌, List, length, take, drop}
 use Rattle.dd_outside.specs.{Bytes.capped, declared.memory.MemorySource.MemorySource, declared.memory.MemorySink.MemorySink}
 

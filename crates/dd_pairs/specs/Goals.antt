@@ -1,4 +1,4 @@
--- The goal that the automata of a pair differ, as a value of the program.
+-- The goal that the automata of a pair differ, and the conjugacy with four such goals, as values of the program.
 use Rattle.std.specs.Prelude.{◌≡◌, List, [], ◌∷◌}
 use Rattle.dd_boxes.specs.{declared.goals.Goal.Goal, Views.goal_of}
 use Rattle.dd_formula.specs.LocalRule.{LocalRule}

@@ -3,8 +3,8 @@
 //! and are inverse to each other. A query of either kind consists of questions, each about one pair: can the two automata of
 //! the pair differ at a position of a configuration that obeys a rule? The rule is the question's premise. The question's goal
 //! is the property of a position that the automata differ there (see `dd_boxes`). The pairs are made when the query is read.
-//! The query is refused if a pair is too large, or if the question about it takes too many clauses (see `dd_question`). The
-//! pairs are made again when the query is answered or checked.
+//! The query is refused if a pair exceeds a limit on instances, reach or depth, or if the question about it takes too many
+//! clauses (see `dd_question`). The pairs are made again when the query is answered or checked.
 #![tactic(auto)]
 
 mod comparisons;

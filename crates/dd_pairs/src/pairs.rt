@@ -129,7 +129,7 @@ pub fn pairs_of(
     }
 }
 
-/// Whether a query asks about pairs, that is, whether `pairs_of` returns any.
+/// Whether a query asks about pairs, that is, whether it is about an image or a conjugacy.
 pub fn asks_pairs(query: &Query) -> bool
     ensures { result ≡ asks_pairs query.now }
 {

@@ -15,9 +15,9 @@ use std::cmp::Ordering;
 use std::collections::BTreeSet;
 
 /// The periods of a configuration that repeats along the vectors `(x, 0, 0)`, `(shear, y, 0)` and `(0, 0, z)`. They are valid
-/// in `dim` dimensions if `x`, `y` and `z` are at least 1, the periods of unused axes (those after the first `dim`) are 1, the
-/// shear is less than `x`, and in one dimension the shear is 0. Periods are ordered by the volume `x * y * z`, then by `x`,
-/// `y`, `z` and the shear.
+/// in `dim` dimensions, where `dim` is 1, 2 or 3, if `x`, `y` and `z` are at least 1, the periods of unused axes (those after
+/// the first `dim`) are 1, the shear is less than `x`, and in one dimension the shear is 0. Periods are ordered by the volume
+/// `x * y * z`, then by `x`, `y`, `z` and the shear.
 #[derive(Debug, Clone, Copy, PartialEq, Eq)]
 pub struct Periods {
     pub x: u32,
@@ -118,8 +118,8 @@ fn add_row(
     Ok(())
 }
 
-/// Adds to the set the periods with this `x` and every possible shear. Each of `y` and `z` takes every value from 1 to `most` if
-/// its axis is one of the first `dim`, else only 1.
+/// Adds to the set the periods with this `x` and every possible shear. Each of `y` and `z` takes every value from 1 to `most`
+/// if its axis is one of the first `dim`, else only 1.
 fn add_plane(found: &mut BTreeSet<Periods>, dim: u32, most: u32, x: u32) -> Result<(), AllocError>
     ensures { OnOk result (IsAdded found.old.keys found.new.keys (HasPlane dim most x)) }
 {

@@ -4,7 +4,7 @@ ghost use Rattle.dd_lattice.specs.declared.position.Cell.{Cell};
 
 use dd_lattice;
 
-/// Gives symbols to some cells, possibly to all.
+/// Gives symbols to cells: to all, to some or to none.
 pub trait Reads {
     /// The symbol of each cell of Z^3, or none.
     ghost symbols: { Self → Cell → Option ℕ };

@@ -1,4 +1,4 @@
--- The inputs of a box's cells are those of its layout.
+-- The inputs of a box's cells are those of its layout. So the clauses that the code makes over these inputs are those of the box.
 use Rattle.std.proofs.Common.{◌≡◌, ℕ, ◌+◌, ◌*◌, ◌<◌, ◌≤◌, Bool, true, false, List, [], ◌∷◌, length, get_or, refl, ap, ◌∙◌, arith, Some, None, if◌then◌else◌}
 use Rattle.std.proofs.lemmas.{Int.ints, Bool.and_parts, Bool.ltb-true, Bool.lt-ltb, Bool.le-leb}
 use Rattle.std.proofs.lemmas.{Nat.mul-le, Option.slice_get-get_or, List.FromFn.length-range_with_len}

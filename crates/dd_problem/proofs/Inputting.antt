@@ -1,4 +1,4 @@
--- The loops that list cells and give them inputs.
+-- The loops that give cells inputs, cell by cell.
 use Rattle.std.proofs.Common.{◌≡◌, ℕ, ◌+◌, ◌*◌, ◌<◌, ◌≤◌, List, [], ◌∷◌, ◌++◌, map, take, length, get_or, ap, sym, subst, ◌∙◌, arith, Some, option_map}
 use Rattle.std.proofs.lemmas.List.{take_more, take_all, get_or-take, length-take, map-append, get_or_default}
 use Rattle.std.proofs.lemmas.{List.FromFn.get_or-range_with_len, Map.Keys.Less-from_sorted}

@@ -1,4 +1,4 @@
--- What is returned by the calls that list the cells read on a torus.
+-- What is returned by the calls that list the cells that may be read on a torus.
 use Rattle.std.proofs.Common.{◌≡◌, ℕ, ◌+◌, ◌*◌, ◌<◌, ◌≤◌, ◌^◌, Bool, true, false, List, [], ◌∷◌, ◌++◌, map, take, length, get_or, ap, sym, subst, ◌∙◌, arith, rules, Some, None, if◌then◌else◌, pos, ◌-ℤ◌}
 use Rattle.std.proofs.lemmas.{Int.ints, Bool.le-leb, Nat.mul-le}
 use Rattle.std.proofs.lemmas.List.{map_more, take_all, append_assoc}

@@ -1,4 +1,5 @@
--- The cells that are read at given cells are among those that `near_cells` lists for the given cells.
+-- The cells that the premise reads at given cells, and those of the box of the goal's least radius, are among those that `near_cells` lists for the
+-- given cells. The listed cells ascend in cell order. If the given cells have nodes of the premise, so have the listed ones.
 use Rattle.std.proofs.Common.{◌≡◌, ◌<◌, Bool, true, List, [], ◌∷◌, ◌++◌, ap, sym, subst, ◌∙◌, inl, inr}
 use Rattle.std.proofs.lemmas.Bool.{and_parts, and_from, ltb-true, or_left, or_right}
 use Rattle.std.proofs.lemmas.List.Elements.{All-contains, Contains-append_left, Contains-append_right}

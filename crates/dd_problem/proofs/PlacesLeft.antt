@@ -1,4 +1,4 @@
--- The loop that makes the premise's clauses, cell by cell.
+-- The loop that makes the premise's gates and clauses, cell by cell.
 use Rattle.std.proofs.Common.{◌≡◌, ℕ, ◌+◌, ◌<◌, ◌≤◌, Bool, true, false, List, [], ◌∷◌, ◌++◌, map, length, drop, get_or, refl, ap, sym, ◌∙◌, arith, append_assoc, drop-cons, add-one, Some, None}
 use Rattle.std.proofs.lemmas.{Bool.and_from, Bool.le-leb, List.append-nil, List.drop_all}
 use Rattle.std.specs.{Prelude.cond, Prelude.Option, List.filter}

@@ -9,7 +9,8 @@ use Rattle.dd_boxes.specs.{Goals.GoalOf, Fillings.is_box_cell, Boxes.Suffices}
 use Rattle.dd_boxes.specs.Witnesses.{IsBoxWitness, IsWitness, HasPeriods}
 use Rattle.dd_problem.specs.{Layouts.box_index, Clauses.input, Symbols.AreRead}
 
--- for each cell of B(n), the box of radius n round the origin, the input of the cell's symbol is true, and the cell's other inputs are false
+-- for each cell of B(n), the box of radius n round the origin, the input of the cell's symbol is true, and the cell's other inputs are false; a cell
+-- without a symbol has no true input
 abbrev pub IsReadFrom : (ℕ → Bool) → LocalRule → ℕ → Look → Type 0
 IsReadFrom set x n look = (c : Cell) (s : ℕ) → is_box_cell x n c ≡ true → s < x.symbols → set (input x.symbols (box_index x n c) s) ≡ is_symbol s (look c)
 
@@ -28,8 +29,8 @@ pub record DecidesBox (clauses : List (List Literal)) (x : LocalRule) (g : GoalO
   pub suffices : AreRefuted clauses → Suffices x g n
   pub refuted : Suffices x g n → AreRefuted clauses
 
--- The same as `Shows`, for the periodic configurations that have these periods and this shear, live in the premise's subshift (obey the premise at
--- every cell), and have the goal at the origin.
+-- The same as `Shows`, for the periodic configurations that have these periods and this shear, have only symbols that their nodes allow, live in the
+-- premise's subshift (obey the premise at every cell), and have the goal at the origin.
 pub record ShowsTorus (clauses : List (List Literal)) (x : LocalRule) (g : GoalOf) (periods : Periods) : Type 0 where
   pub each : (set : ℕ → Bool) → Satisfies set clauses → (t : Tile) × HasPeriods periods t × IsWitness x g t × AreRead set x.symbols t.symbols
   pub every : (t : Tile) → HasPeriods periods t → IsWitness x g t → (set : ℕ → Bool) × Satisfies set clauses × AreRead set x.symbols t.symbols

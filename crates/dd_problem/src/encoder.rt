@@ -48,7 +48,8 @@ impl Model for Encoder {
 }
 
 /// Gives the clause list as many variables as the circuit has. If `made` is an error, returns this error. If `made` is a
-/// signal, adds the clauses of all gates except the first `before` gates, and returns the signal.
+/// signal, adds the clauses of all gates except the first `before` gates, and returns the signal. If memory runs out, some of
+/// these clauses may have been added.
 fn push_made(
     alloc: Global,
     cnf: &mut Cnf,

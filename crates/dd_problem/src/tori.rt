@@ -86,7 +86,7 @@ fn push_shifted(found: &mut Vec<Cell>, by: &Position, cells: &[Cell]) -> Result<
     Ok(())
 }
 
-/// The cells in cell order, each once. Many occur more than once, so they are sorted in place and repeats are dropped.
+/// The cells in cell order, each once. Many may occur more than once, so they are sorted in place and repeats are dropped.
 fn once_each(cells: Vec<Cell>) -> Vec<Cell>
     ensures { result.items ≡ in_order cells.items }
 {
@@ -147,8 +147,8 @@ fn counted(alloc: Global, count: u32) -> Result<Vec<u32>, AllocError>
     Ok(numbers)
 }
 
-/// The configuration of these periods in which each cell of the fundamental box has its number, from 0 in cell order, in place
-/// of a symbol.
+/// The configuration of these periods, with their shear, in which each cell of the fundamental box has its number, from 0 in
+/// cell order, in place of a symbol.
 fn numbering(alloc: Global, premise: &Rule, periods: &Periods) -> Result<Periodic, AllocError>
     requires { AreTorusPeriods premise.now.dimension premise.now.nodes periods.now }
     ensures { IfOk result (λ t. t ≡ numbered_tile premise.now periods.now) }
@@ -183,12 +183,12 @@ fn torus_inputs(
     inputs_by_number(alloc, &near, &numbers, symbols)
 }
 
-/// The clauses that ask for a configuration of these periods and this shear that lives in the premise's subshift and has the
-/// goal at the origin. The periods along x, y and z must be at least 1; those of axes past the dimension must be 1. The shear
-/// must be less than the first period, and 0 in one dimension. The fundamental box must have at most 65,536 cells. A bound on
-/// the number of clauses, `question_clauses` in the specs of `dd_boxes`, must be at most 2,000,000. The cells of the
-/// fundamental box are numbered from 0 in cell order. If the alphabet has `symbols` symbols, the variable
-/// `1 + k * symbols + s` says that the cell with the number `k` has the symbol `s`. The variables of the gates follow.
+/// The clauses that ask for a configuration of these periods and this shear that has only symbols that their nodes allow, lives
+/// in the premise's subshift, and has the goal at the origin. The periods along x, y and z must be at least 1; those of axes
+/// past the dimension must be 1. The shear must be less than the first period, and 0 in one dimension. The fundamental box must
+/// have at most 65,536 cells. A bound on the number of clauses, `question_clauses` in the specs of `dd_boxes`, must be at most
+/// 2,000,000. The cells of the fundamental box are numbered from 0 in cell order. If the alphabet has `symbols` symbols, the
+/// variable `1 + k * symbols + s` says that the cell with the number `k` has the symbol `s`. The variables of the gates follow.
 ///
 /// # Errors
 /// `AllocError` if memory ran out.

@@ -1,4 +1,4 @@
--- The numbers and vectors of a query without faults are within their bounds.
+-- If a query has no fault, what it names is defined, its numbers and vectors are within their bounds, and there are enough symbols for it.
 use Rattle.std.proofs.Common.{◌≡◌, ◌<◌, ◌≤◌, ℕ, suc, false, List, [], ◌∷◌, length, map, subst, slice_index, arith, leb-true}
 use Rattle.std.specs.List.{flat_map, list_any, zip}
 use Rattle.dd_query.specs.Tree.{Word, Role, Lists, QueryKind, Request, Context}

@@ -1,4 +1,4 @@
--- If a query has no fault, the periods of its torus are within their bounds.
+-- If a query has no fault, the periods of its torus are within their bounds. No such period is greater than the limit on the number of cells.
 use Rattle.std.proofs.Common.{◌≡◌, ◌≤◌, ◌*◌, ℕ, zero, suc, false, List, [], ◌∷◌, length, refl, subst, arith, slice_index}
 use Rattle.std.proofs.lemmas.Bool.{or_parts, ltb-false, eqb-true}
 use Rattle.std.proofs.Math.Nat.{le-mul_of_pos_right, mul_comm, mul_assoc, one-le-mul}

@@ -7,11 +7,11 @@ use Rattle.dd_commands.specs.Table.{row}
 use Rattle.dd_known.specs.{Known.named, Limits.longest_strip}
 use Rattle.dd_faults.specs.{Names.number_in, Commands.period_at}
 
--- the number of the rule, automaton or configuration that the word names; the role says which of the three it names
+-- the number of the rule, automaton or configuration that the word names; the role says which of the three; 0 if the word names nothing of this role
 abbrev pub number_of_word : Context → Role × Word → ℕ
 number_of_word x w = number_in x.text (named x.known w.0) (Name.Word w.1)
 
--- the number of what the word at this index names; the table of queries gives the word's role
+-- the number of what the word at this index names, as in `number_of_word`; the table of queries gives the role; 0 if there is no such word or role
 abbrev pub word_at : Context → Request → ℕ → ℕ
 word_at x r place = slice_index (map (number_of_word x) (zip (row r.kind).names r.words)) place
 

@@ -7,7 +7,7 @@ use Rattle.dd_faults.specs.{Tree.Vector, Commands.signed_value, Commands.is_far}
 abbrev pub coordinate : List ℕ → Vector → ℕ → ℤ
 coordinate bytes v axis = option_map_or (signed_value bytes) (slice_get v.entries axis) (pos 0)
 
--- the position whose coordinates are the entries of this vector; missing coordinates are 0
+-- the position whose coordinates are the first three entries of this vector; missing coordinates are 0
 abbrev pub place_of : List ℕ → Vector → Place
 place_of bytes v = place (coordinate bytes v 0) (coordinate bytes v 1) (coordinate bytes v 2)
 

@@ -16,8 +16,8 @@ use dd_values::Items;
 use dd_written::{Name, Text, number_value};
 use std::alloc::{AllocError, Global};
 
-/// The number of the rule, automaton or configuration that the word at the index `place` names; 0 if there is no such word, or
-/// if it names nothing of its role.
+/// The number of the rule, automaton or configuration that the word at the index `place` names; 0 if there is no such word, if
+/// the table of queries gives it no role, or if it names nothing of its role.
 pub(crate) fn word_at(context: &Context, request: &Request, place: usize) -> u32
     ensures { result ≡ word_at context.now request.now place }
 {
@@ -66,7 +66,7 @@ pub(crate) fn torus_of(context: &Context, vectors: &[Vector]) -> [u32; 3]
     }
 }
 
-/// For each vector, the position whose coordinates are its entries.
+/// For each vector, the position that `position_of` gives.
 pub(crate) fn positions(
     alloc: Global,
     text: &Text,

@@ -72,7 +72,7 @@ pub enum Query {
         strip: [u32; 2],
     },
     /// The least weight of a fundamental box, the box that repeats, over the configurations of the rule's subshift that have
-    /// these periods. Along an axis past the dimension the period is 1.
+    /// these periods and no shear. Along an axis past the dimension the period is 1.
     Least {
         rule: u32,
         periods: [u32; 3],
@@ -118,7 +118,8 @@ fn conjugate(context: &Context, request: &Request) -> Query
     }
 }
 
-/// The query with this syntax tree. The query's numbers and vectors must be within their bounds.
+/// The query with this syntax tree. There must be a node, and the query must be as `IsQueryWithin` says. No entry of the
+/// vectors of a discharging query may be over 4 in absolute value.
 fn asked(alloc: Global, context: &Context, request: &Request) -> Result<Query, AllocError>
     requires within { IsQueryWithin context.now.known (query_of context.now request.now) }
     requires nodes { 1 ≤ length context.now.known.setting.nodes }
@@ -164,8 +165,8 @@ fn asked(alloc: Global, context: &Context, request: &Request) -> Result<Query, A
     })
 }
 
-/// The query with this syntax tree. The syntax tree must have the words, numbers and vectors that its kind of query takes, and
-/// no faults.
+/// The query with this syntax tree. What the script has defined so far must be sound (`IsSound` in `dd_known`). The syntax tree
+/// must have the words, numbers and vectors that its kind of query takes, and no faults.
 ///
 /// # Errors
 /// `AllocError` if memory ran out.

@@ -20,8 +20,8 @@ fn coordinate(text: &Text, vector: &Vector, axis: usize) -> i32
     }
 }
 
-/// The position whose coordinates are the entries of this vector. Missing coordinates are 0. No entry may be over 4 in absolute
-/// value.
+/// The position whose coordinates are the first three entries of this vector. Missing coordinates are 0. No entry may be over 4
+/// in absolute value.
 pub fn position_of(text: &Text, vector: &Vector) -> Position
     requires { IsClose text.now vector.now }
     ensures { result ≡ place_of text.now vector.now }

@@ -1,5 +1,5 @@
 -- To cut a count off at a limit is to replace it by limit + 1 if it is greater than the limit. The result exceeds the limit exactly when the whole
--- count does.
+-- count does. In particular, this holds for the upper bound for the number of a box question's clauses.
 use Rattle.std.proofs.{Common.◌≡◌, Common.ℕ, Common.max, Common.ap, Common.◌∙◌, Common.arith, lemmas.Bool.Decides.nat_tests}
 use Rattle.std.specs.Prelude.{nat_lt}
 use Rattle.dd_values.specs.declared.limits.Limits.{Limits}

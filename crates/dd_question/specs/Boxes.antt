@@ -1,6 +1,6 @@
--- Box questions: how many clauses they take, and when they are sound. A box question has a rule, which is its premise, and a goal. It asks whether no
--- configuration that obeys the premise has the goal at any position. A search on a box or a torus looks for an assignment that satisfies certain
--- clauses (see dd_problem).
+-- Box questions: how many clauses they take at most, and when they are sound. A box question has a rule, which is its premise, and a goal. It asks
+-- whether no configuration that obeys the premise has the goal at any position. A search on a box or a torus looks for an assignment that satisfies
+-- certain clauses (see dd_problem).
 use Rattle.std.specs.Prelude.{ℕ, Bool, max, nat_lt}
 use Rattle.dd_values.specs.declared.limits.Limits.{Limits}
 use Rattle.dd_formula.specs.{LocalRule.LocalRule, LocalRule.IsRule, Counts.largest_clauses}
@@ -20,8 +20,8 @@ is_long l x g = nat_lt most_clauses (clauses_of l x g)
 abbrev pub IsFormedBox : LocalRule → GoalOf → Type 0
 IsFormedBox x g = IsRule x × IsGoalFor x g × KeepsRule g
 
--- the goal fits the premise; the goal's rule, if the goal has one, is well formed; and the question takes at most 2,000,000
--- clauses on the largest box and on the largest torus that a search may try
+-- the goal fits the premise; the goal's rule, if the goal has one, is well formed; and the upper bound for the number of clauses
+-- of the question, on the largest box or torus that a search may try, is at most 2,000,000
 pub record IsAskable (l : Limits) (x : LocalRule) (g : GoalOf) : Type 0 where
   pub goal : IsGoalFor x g
   pub rule : KeepsRule g

@@ -7,7 +7,7 @@ pub mod Checked
 pub mod Boxes
 -- the four box questions of a conjugacy
 pub mod Conjugacies
--- questions for lists of forbidden patterns
+-- questions for lists of forbidden patterns or of minimal ones
 pub mod Lists
 -- questions for the least density of a strip
 pub mod Densities

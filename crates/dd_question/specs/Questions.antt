@@ -19,12 +19,13 @@ use Rattle.dd_question.specs.declared.question.Question.TheVariants as question
 -- A question, as contracts see it. In the definitions below, `ws` lists the weights of the symbols, `along` the periods of a torus, and `vs` the
 -- vectors of a discharge.
 pub data Asked : Type 0 where
-  -- does the configuration live in the rule's subshift, that is, does it obey the rule at every cell?
+  -- does the configuration live in the rule's subshift, that is, is the rule true at every cell?
   membership : LocalRule → Tile → Asked
   -- The box question: is it true that no configuration that obeys the rule has the goal at any position? A goal is something that may hold at a
-  -- position, such as that another rule is broken there.
+  -- position, such as that another rule is false at some node there.
   box : LocalRule → GoalOf → Asked
-  -- do the same configurations obey both rules?
+  -- Is it true that no configuration that obeys one of the rules makes the other one false at any cell? If both rules allow the same symbols at each
+  -- node, this means that the same configurations obey both.
   equality : LocalRule → LocalRule → Asked
   -- Which patterns does the rule forbid? Such a pattern gives allowed symbols to all cells that the rule reads at a node, and makes the rule false
   -- there.
@@ -41,11 +42,12 @@ pub data Asked : Type 0 where
   -- fundamental box, the box that repeats.
   least : LocalRule → List ℕ → List ℕ → Asked
   -- What is the best lower bound that a discharge shows for the density (the weight per position) of every configuration that obeys the rule? Each
-  -- position first holds the weight of its symbols. Then, along each of the vectors, it gives an amount to the position at the vector's end. A bound
-  -- is a number such that each position holds at least this number in the end. The first number of the question is the radius: the symbols of the box
-  -- of this radius around a position determine what it gives. To find the best bound, the fillings of a finite region are examined. The region
-  -- consists of the boxes of this radius around a position and around the positions that give to it. Each of these boxes is enlarged by the second
-  -- number, the margin, in every direction.
+  -- position first holds the weight of its symbols. Then, along each of the vectors, it gives an amount to the position at the vector's end. The first
+  -- number of the question is the radius: the symbols of the box of this radius around a position determine what it gives. A bound is a number such
+  -- that a position holds at least this number in the end, in each admissible filling of a finite region around it. A bound may not exceed the number
+  -- of nodes times the greatest weight. The region consists of the boxes of this radius around the position and around the positions that give to it.
+  -- Each of these boxes is enlarged by the second number, the margin, in every direction. A filling of the region is admissible if its symbols are
+  -- allowed and the rule is true at each cell of the region for which all that the rule reads lies in the region.
   discharge : LocalRule → ℕ → ℕ → List Place → List ℕ → Asked
 
 -- the question that a value of the code stands for

@@ -44,7 +44,7 @@ pub enum QuestionFault {
     Margin,
     /// A discharge has no vectors or more than 16, or two of them are equal. Or one of them is over 4 long along an axis, or is
     /// not 0 along an axis past the rule's dimension.
-    #[error("there aren't 1 to 16 different vectors of at most 4 along each axis")]
+    #[error("there aren't 1 to 16 different vectors of the rule's dimension, at most 4 long along each axis")]
     Vectors,
     /// The question exceeds a limit on its work.
     #[error("the question exceeds a limit on its work")]

@@ -1,8 +1,9 @@
 //! Questions about rules, one variant of `Question` for each kind. Each position of the lattice has from one to four nodes. A
 //! cell is a position together with one of its nodes. A configuration gives each cell a symbol. A filling gives a symbol to
 //! each of finitely many cells. A rule is a formula about a cell and the cells near it. It has an alphabet, and may allow only
-//! some of its symbols at a node. Its subshift is the set of the configurations that obey it at every cell. An automaton maps
-//! configurations to configurations.
+//! some of its symbols at a node. A configuration obeys the rule if it gives each cell a symbol that the cell's node allows,
+//! and the rule is true at every cell. The rule's subshift is the set of these configurations. An automaton maps configurations
+//! to configurations.
 //!
 //! A torus stands for the configurations that repeat along the vectors `(x, 0, 0)`, `(s, y, 0)` and `(0, 0, z)`. Here x, y and
 //! z are the periods of the torus, and s is its shear. Its fundamental box is the box that repeats. The side lengths of this
@@ -12,12 +13,12 @@
 //! them the answer is UNKNOWN. To answer a box question (`Question::Box`), the search tries boxes around the origin and then
 //! tori, and turns each of them into clauses. Its limits are the greatest radius of these boxes and the greatest period of
 //! these tori. One box is tried even if its radius is greater: the smallest one that holds all cells that the question's goal
-//! reads. Another limit is the greatest number of simplex pivots for a discharge.
+//! reads at the origin. Another limit is the greatest number of simplex pivots for a discharge.
 //!
-//! The limits on a question's work (`Excess`) bound numbers that can be computed beforehand, such as the number of clauses of
-//! a search. `Question::check` tests whether the limits of the search are in range, whether the parts of a question fit
-//! together, and whether the question exceeds a limit on its work. A question that passes these tests becomes a
-//! `CheckedQuestion`.
+//! The limits on a question's work (`Excess`) are limits on numbers that can be computed beforehand, such as an upper bound for
+//! the number of clauses of a search. `Question::check` tests whether the limits of the search are in range, whether the parts
+//! of a question fit together, and whether the question exceeds a limit on its work. A question that passes these tests becomes
+//! a `CheckedQuestion`.
 #![tactic(auto)]
 
 mod checked;

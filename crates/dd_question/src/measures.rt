@@ -10,13 +10,13 @@ use dd_counts::{broken_clauses, differ_clauses};
 use dd_formula::{Automaton, Rule};
 use std::alloc::{AllocError, Global};
 
-/// The greatest number of clauses that a question may take.
+/// The limit on the number of a question's clauses. The number that is compared with it is an upper bound.
 pub const MOST_CLAUSES: u32 = 2_000_000;
 
 /// The measure of a goal.
 #[derive(Clone, Copy)]
 pub(crate) struct Measure {
-    /// How far from the origin the goal reads, along any axis.
+    /// How far from the origin, along any axis, the farthest cell lies that the goal reads at the origin.
     pub(crate) radius: u32,
     /// How many clauses it takes to say that the goal holds at the origin, or `MOST_CLAUSES + 1` if there are more than
     /// `MOST_CLAUSES`.

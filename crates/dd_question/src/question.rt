@@ -8,18 +8,19 @@ use dd_pattern::Periodic;
 /// A question about rules. If it has `weights`, the symbol `s` weighs `weights[s]`.
 #[derive(Clone, Copy)]
 pub enum Question<'a> {
-    /// Does the configuration live in the rule's subshift, that is, does it obey the rule at every cell?
+    /// Does the configuration live in the rule's subshift, that is, is the rule true at every cell?
     Membership {
         rule: &'a Rule,
         configuration: &'a Periodic,
     },
     /// The box question: is it true that no configuration that obeys the rule `premise` has the goal at any position? A goal is
-    /// something that may hold at a position, such as that another rule is broken there.
+    /// something that may hold at a position, such as that another rule is false at some node there.
     Box {
         premise: &'a Rule,
         goal: Goal<'a>,
     },
-    /// Do the same configurations obey both rules? If so, no configuration that obeys one of the rules breaks the other.
+    /// Is it true that no configuration that obeys one of the rules makes the other one false at any cell? If both rules allow
+    /// the same symbols at each node, this means that the same configurations obey both.
     Equality {
         left: &'a Rule,
         right: &'a Rule,
@@ -57,9 +58,11 @@ pub enum Question<'a> {
     /// What is the best lower bound that a discharge shows for the density (the weight per position) of every configuration
     /// that obeys the rule? In a discharge, each position first holds the weight of its symbols. Then, along each of the
     /// vectors, it gives an amount to the position at the vector's end. The symbols of the box of radius `radius` around a
-    /// position determine what it gives. A bound is a number such that each position holds at least this number in the end. To
-    /// find the best bound, the fillings of a finite region are examined. The region consists of the boxes of radius `radius`
-    /// around a position and around the positions that give to it, each enlarged by `margin` in every direction.
+    /// position determine what it gives. A bound is a number such that a position holds at least this number in the end, in
+    /// each admissible filling of a finite region around it. A bound may not exceed the number of nodes times the greatest
+    /// weight. The region consists of the boxes of radius `radius` around the position and around the positions that give to
+    /// it, each enlarged by `margin` in every direction. A filling of the region is admissible if its symbols are allowed and
+    /// the rule is true at each cell of the region for which all that the rule reads lies in the region.
     Discharge {
         rule: &'a Rule,
         radius: u32,

@@ -1,4 +1,4 @@
-//! Questions for a least weight on a torus: which may be asked, and how many clauses they take.
+//! Questions for a least weight on a torus: which may be asked, and how many clauses they take at most.
 ghost use Rattle.std.specs.Prelude.{◌≡◌, ◌<◌, ◌^◌, ◌↔◌, IsTrue, IfErr, OnOk, length};
 ghost use Rattle.dd_pattern.specs.Periods.{periods_of, ArePeriodsIn};
 ghost use Rattle.dd_pattern.specs.Tile.{most_symbols};

@@ -9,7 +9,7 @@ use Rattle.dd_certificate.specs.declared.answer.Answer.{Answer}
 use Rattle.dd_counter.specs.declared.least.LeastWeight.TheVariants as least
 use Rattle.dd_certificate.specs.declared.answer.Answer.TheVariants as answer
 
--- the answer that the outcome gives: a least weight, or that no configuration of the given periods lives in the rule's subshift
+-- the answer that the outcome gives: a least weight, or that no configuration with the given periods and no shear lives in the rule's subshift
 abbrev pub written_weight : LeastWeight → Answer
 written_weight (least.Least w t steps) = answer.Least w t.symbols steps
 written_weight (least.Nothing steps) = answer.Nothing steps

@@ -11,7 +11,8 @@
 //! asked about each list of clauses. If none of them makes a right proposal, a solver decides.
 //!
 //! The limits bound the radii and the periods of the search, and the pivots of a run of the simplex method. If they leave a
-//! question undecided, the answer is UNKNOWN.
+//! question undecided, the answer is UNKNOWN. So is the answer to a question about discharging if its linear program or a
+//! number becomes too large.
 #![tactic(auto)]
 
 mod boxes;

@@ -1,4 +1,4 @@
--- The cells of a region, in cell order.
+-- The listed cells of a region are in cell order, have nodes of the rule and are in range. The cells of the grown domain are those of the ground.
 use Rattle.std.proofs.Common.{◌≡◌, ◌<◌, ◌≤◌, ◌+◌, ℕ, zero, suc, List, [], ◌∷◌, map, refl, sym, ◌∙◌, ap, subst, inl, inr, arith}
 use Rattle.std.proofs.lemmas.List.Elements.{Contains-append_cases}
 use Rattle.std.specs.{List.All, List.Contains, List.range_with_len, List.Sorted.IsStrictlySortedBy, Cmp.nat_cmp_is, Cmp.tied_itself}
@@ -80,7 +80,7 @@ pub cells_in_range : (n : ℕ) (ps : List Place) → All IsInRange ps → AreInR
 cells_in_range n ps near = all_flat_map (λ c. IsInRange c.position) IsInRange (λ p. map (cell p) (range_with_len 0 n))
     (λ p h. all_map (λ c. IsInRange c.position) (λ a. Unit {0}) (cell p) (λ a _. h) (range_with_len 0 n) (λ k d w. tt)) ps near
 
--- the cells of the grown domain are the ground
+-- the cells of the grown domain are those of the ground
 pub ground_from : (x : LocalRule) (radius margin : ℕ) (vs domain region : List Place) (cs : List Cell) → IsRegionOf (IsInDomain x.dimension radius vs) domain →
     IsRegionOf (IsNearby x.dimension margin domain) region → cs ≡ cells_on x.nodes region → IsGround x radius margin vs cs
 ground_from x radius margin vs domain region cs inner outer is = record {

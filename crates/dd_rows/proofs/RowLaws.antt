@@ -1,4 +1,4 @@
--- What the views show in a filling determines the filling's patterns and the row that the filling requires.
+-- What the views show in a filling determines the filling's patterns and the row that the filling requires. More fillings show no fewer patterns.
 use Rattle.std.proofs.Common.{◌≡◌, ◌<◌, ◌≤◌, ◌+◌, ◌*◌, ◌-◌, ◌^◌, min, mul-le-mul_left, ℕ, List, [], ◌∷◌, ◌++◌, length, get_or, map, take, drop, sym, ◌∙◌, ap, arith}
 use Rattle.std.proofs.lemmas.{List.take-append-drop, List.Concat.flat_map-append, List.Sums.fold-append, Simd.map-map}
 use Rattle.std.specs.{Prelude.unwrap_or, Prelude.slice_get, List.flat_map, List.range_with_len, Ordering.nat_cmp}

@@ -1,4 +1,5 @@
--- Two rows of one program are the same exactly when they have the same bound and the same exchange along each vector.
+-- Two rows of one program are the same exactly when they have the same bound and the same exchange along each vector. Written out by `dense`, the
+-- sparse rows that the code collects are the first row and those that the fillings require, each once.
 use Rattle.std.proofs.Common.{◌≡◌, ◌<◌, ◌≤◌, ◌+◌, ◌*◌, ℕ, zero, suc, Bool, true, false, cond, List, [], ◌∷◌, ◌++◌, length, get_or, map, take, drop, refl, sym, ◌∙◌, ap, subst, inl, inr, arith, ℤ, pos, Option, Some, None, replicate}
 use Rattle.std.proofs.lemmas.Option.{same_Some}
 use Rattle.std.proofs.lemmas.Bool.{false≢true, and_parts, and_from, cases_lt, cases_eq, eq-eqb, eqb-true}

@@ -5,7 +5,7 @@ pub mod Domains
 pub mod Fillings
 -- the patterns (the symbols of a box) around the origin, and around the positions that give to it
 pub mod Patterns
--- the program of a rule along some vectors: rows that bound from below what each position holds
+-- the program of a rule along some vectors: its rows, its limits, and what it means that the fault `Large` is right
 pub mod Programs
 -- what a fault means
 pub mod Faults

@@ -9,7 +9,7 @@ use thiserror::Error;
 pub enum RowsFault {
     /// Some prefix of the list of cells has more than 65,536 admissible fillings, or the program would have more than 256
     /// columns or more than 2,048 rows.
-    #[error("the program of the discharge is too large")]
+    #[error("there are too many fillings, columns or rows")]
     Large,
     /// Memory ran out.
     #[error("out of memory")]

@@ -14,7 +14,8 @@ use std::alloc::{AllocError, Global};
 use std::cmp::Ordering;
 use std::marker::Model;
 
-/// The symbols of a box in cell order. Patterns are ordered lexicographically.
+/// The symbols of a box in cell order. Patterns are ordered lexicographically. (`program` also reads the symbols of the
+/// origin's cells into a value of this type.)
 #[derive(Drop)]
 pub(crate) struct Pattern {
     symbols: Vec<u32>,
@@ -83,7 +84,7 @@ impl Pattern {
     {
         self.symbols.clear();
         for number in numbers {
-            // Each of these cells has a symbol, so the default 0 is never used.
+            // In a filling of the ground each of these cells has a symbol, so the default 0 is never used.
             self.symbols
                 .push(symbols.get(*number).copied().unwrap_or(0))?;
         }

@@ -1,6 +1,6 @@
 //! The search for admissible fillings of a list of cells. It goes level by level. Level k has all admissible fillings of the
-//! first k cells, and the next level fills one more cell. A cell's number is its index in the list. The cells that the rule
-//! reads at a cell are those whose symbols the rule's formula looks at there.
+//! first k cells, and the next level fills one more cell. A cell's number is its index in the list, or the length of the list
+//! if the cell isn't there. The cells that the rule reads at a cell are those whose symbols the rule's formula looks at there.
 ghost use Rattle.std.specs.Prelude.{◌≡◌, ◌<◌, ◌≤◌, ◌+◌, ◌++◌, [], ◌∷◌, length, map, IfOk, OnOk, IfErr};
 ghost use Rattle.std.specs.List.{flat_map, range_with_len};
 ghost use Rattle.std.specs.List.Sorted.{IsStrictlySortedBy};
@@ -33,7 +33,7 @@ fn write_symbol(longer: &mut Vec<u32>, symbol: u32) -> Result<(), AllocError>
 }
 
 /// For each symbol that the node allows, appends to `next` the list `symbols` with this symbol at its end, if all formulas are
-/// true of this longer list. The longer list is first built in `longer`. Fails with `Large` if `next` would get more than
+/// true of this longer list. The longer list is first built in `longer`. Fails with `Large` if `next` would then have more than
 /// 65,536 lists.
 fn extend(
     alloc: Global,

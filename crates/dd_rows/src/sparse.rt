@@ -1,5 +1,5 @@
 //! Rows in a sparse form. For each vector, at most two of a row's coefficients are not 0, so a few numbers describe a row. A
-//! pattern's number is its index in the list of patterns.
+//! pattern's number is its index in the list of patterns, or the length of the list if the pattern isn't there.
 ghost use Rattle.std.specs.Prelude.{◌≡◌, ◌++◌, ◌∷◌, [], pos, None, replicate, length, map, IfOk, OnOk};
 ghost use Rattle.dd_pattern.specs.Weight.{total_weight};
 ghost use Rattle.dd_rows.specs.Patterns.{pattern_number};

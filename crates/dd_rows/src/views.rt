@@ -1,5 +1,5 @@
 //! Views: lists of the cells whose symbols determine the row that a filling requires. Each cell is given by its number, which
-//! is its index in the list of the cells that are filled.
+//! is its index in the list of the cells that are filled, or the length of this list if the cell isn't there.
 ghost use Rattle.std.specs.Prelude.{◌≡◌, ◌<◌, ◌≤◌, ◌*◌, pos, map, length, IfOk, IfErr};
 ghost use Rattle.std.specs.List.{All, range_with_len};
 ghost use Rattle.std.specs.List.Sorted.{IsStrictlySortedBy};

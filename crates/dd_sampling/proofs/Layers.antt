@@ -1,4 +1,5 @@
--- For each kind of written formula: its text, where it may stand in another formula, and its depth.
+-- For each kind of written formula: its text, where it may stand in another formula, and its depth. So the formulas of a sample's rules are well
+-- formed, and their texts are those that `Tree` lists.
 use Rattle.std.proofs.Common.{◌≡◌, ℕ, ◌+◌, ◌≤◌, List, [], ◌∷◌, ◌++◌, length, map, Bool, true, ap, arith}
 use Rattle.std.specs.{Prelude.◌&&◌, Prelude.nat_le, Prelude.◌-◌, List.flat_map, List.list_all}
 use Rattle.dd_written.specs.declared.{lexeme.Word.Word, lexeme.Lexeme.Lexeme, tree.Atom.Atom, tree.Ball.Ball}

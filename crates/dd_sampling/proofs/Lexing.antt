@@ -1,4 +1,4 @@
--- The lexemes of tokens whose text follows another text.
+-- The lexemes of tokens whose text follows another text, and those of symbols.
 use Rattle.std.proofs.Common.{◌≡◌, ℕ, zero, suc, ◌+◌, List, [], ◌∷◌, ◌++◌, length, map, take, drop, Option, Some, None, refl, ap, ◌∙◌, arith}
 use Rattle.dd_tokens.specs.declared.token.{Token.Token, TokenKind.TokenKind}
 use Rattle.dd_written.specs.declared.lexeme.{Mark.Mark, Word.Word, Number.Number}

@@ -5,7 +5,7 @@ use Rattle.dd_question.specs.Questions.{Asked, IsSoundAsked}
 use Rattle.dd_script.specs.{Kept.IsRuleOf, Parts.Parts, Parts.Known, Parts.Query, Questions.asked}
 
 -- The rules of the question are over the script's topology, its symbols, and the symbols that its nodes allow. The rules in goals are left out. (A
--- goal is something that may hold at a position; a box question asks whether it holds nowhere.)
+-- goal is something that may hold at a position; a box question asks whether no configuration that obeys its premise has the goal anywhere.)
 abbrev pub AreOf : Known → Asked → Type 0
 AreOf k (question.membership x t) = IsRuleOf k.setting x
 AreOf k (question.box x g) = IsRuleOf k.setting x

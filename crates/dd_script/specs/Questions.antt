@@ -36,13 +36,14 @@ asked s (Query.Density rule strip) = option_map (λ x. question.density x strip 
 asked s (Query.Least rule periods) = option_map (λ x. question.least x periods s.known.weights) (slice_get s.rules rule)
 asked s (Query.Discharge rule radius margin vectors) = option_map (λ x. question.discharge x radius margin vectors s.known.weights) (slice_get s.rules rule)
 
--- The limit on work that the query's question exceeds, if there is one. The work for box questions depends on the script's search limits.
+-- The limit on work that the query's question exceeds, if there are such a question and such a limit. The work for box questions depends on the
+-- script's search limits.
 abbrev pub query_excess : Parts → Query → Option Excess
 query_excess s q = option_and_then (excess_of s.known.limits) (asked s q)
 
--- The comparisons that a query about an image or a conjugacy consists of; any other query has none. A comparison is about the configurations that
--- obey a rule. It asks one of two things. Can the image of such a configuration under an automaton break another rule, or have a symbol that isn't
--- allowed? Or can such a configuration change if two automata are applied to it, one after the other?
+-- The comparisons that a query about an image or a conjugacy consists of, if the rules and automata that it names exist; any other query has none. A
+-- comparison is about the configurations that obey a rule. It asks one of two things. Can the image of such a configuration under an automaton break
+-- another rule, or have a symbol that isn't allowed? Or can such a configuration change if two automata are applied to it, one after the other?
 abbrev pub comparisons_for : Parts → Query → List ComparisonOf
 comparisons_for s q = comparisons_asked s.rules s.automata q
 
@@ -50,6 +51,6 @@ comparisons_for s q = comparisons_asked s.rules s.automata q
 abbrev pub pairs_for : Parts → Query → List Pair
 pairs_for s q = pairs_of s.known.setting s.rules s.automata q
 
--- the query with this number; queries are numbered from 1
+-- the query with this number; queries are numbered from 1, and the number 0 gives the first query too
 abbrev pub query_at : Parts → ℕ → Option Query
 query_at s number = slice_get s.queries (number - 1)

@@ -20,8 +20,8 @@ start = record { known = known_start; rules = []; automata = []; configurations 
 
 -- ---- what a command changes
 
--- The script s after one more command, which has this meaning. If the command gives nodes or symbols, each node allows each symbol again. If the
--- command gives symbols, the weight of each symbol is its index.
+-- The script s after one more command, which has this meaning. If the command gives nodes or symbols, each node allows each symbol again, and no node
+-- is restricted. If the command gives symbols, the weight of each symbol is its index.
 abbrev pub with : List ℕ → Parts → Meaning → Parts
 with bytes s (Meaning.Topology g) = record s { known = record (s.known) { setting = record (s.known.setting) { topology = g } } }
 with bytes s (Meaning.Nodes nodes given g) =
@@ -75,10 +75,10 @@ abbrev pub meaning_at : List ℕ → Bool → ℕ → Parts → Written → Mean
 meaning_at bytes topology n s w = meaning_of (context bytes topology n s) s.automata w.command
 
 -- The first fault of a command: the first of the lowest rank among the faults of the command's text. (Unknown names have the lowest rank, then come
--- repetitions, then wrong dimensions and wrong numbers of items, then exceeded limits.) If there is none, it is the first limit that the command's
--- rule or automaton exceeds: on its instances, on how far away it reads cells, or on its depth. (Instances are, roughly, the parts of its formulas
--- once these are written without variables. The depth is how deep compositions are nested.) If there is none either, it is `asked_fault` of the
--- command's meaning.
+-- repetitions, then wrong dimensions and wrong numbers of items, then exceeded limits, in the order of `Limit`.) If there is none, it is the first
+-- limit that the command's rule or automaton exceeds: on its instances, on how far away it reads cells, or on its depth. (Instances are, roughly, the
+-- parts of its formulas once these are written without variables. The depth is how deep compositions are nested.) If there is none either, it is
+-- `asked_fault` of the command's meaning.
 abbrev pub fault_of : List ℕ → Bool → ℕ → Parts → Written → Option Fault
 fault_of bytes topology n s w =
     option_or (first_fault (written_faults (context bytes topology n s) w))

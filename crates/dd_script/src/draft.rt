@@ -67,7 +67,8 @@ impl Draft {
     }
 
     /// Refuses a query if one of the following exceeds a limit on scripts: a pair of automata that the query asks about, the
-    /// question about such a pair, or the question that the query itself asks. Accepts all other queries and commands.
+    /// question about such a pair, or the question that the query itself asks. Accepts all other queries and commands, unless
+    /// memory runs out.
     fn check_limits(&self, alloc: Global, meaning: &Meaning) -> Result<(), Refusal>
         requires script { IsScriptOf (parts_of self.now) }
         requires sound { IsSoundMeaning self.now.context meaning.now }
@@ -93,7 +94,7 @@ impl Draft {
         }
     }
 
-    /// The meaning of the next command, or the first fault of that command.
+    /// The meaning of the next command. The error is the first fault of that command, or says that memory ran out.
     pub(crate) fn meaning_of(&self, alloc: Global, written: &Written) -> Result<Meaning, Refusal>
         requires written { IsWritten self.now.context.text written.now }
         requires script { IsScriptOf (parts_of self.now) }
@@ -105,7 +106,7 @@ impl Draft {
         Ok(meaning)
     }
 
-    /// Adds the next command, which has this meaning.
+    /// Adds the next command, which has this meaning. If memory runs out, nothing is known of the draft.
     pub(crate) fn add(&mut self, alloc: Global, meaning: Meaning) -> Result<(), AllocError>
         requires counted { self.old.context.number ≤ most_commands }
         requires sound { IsSound self.old.context.known }

@@ -55,7 +55,8 @@ fn refusal_for(
 }
 
 /// Adds all commands of a text to the draft, which is the draft before the first of them. If some command has a fault, the
-/// error gives the number of the first such command, and the first fault of that command.
+/// error gives the number of the first such command, and the first fault of that command. The error may also say that memory
+/// ran out.
 fn walk(alloc: Global, draft: &mut Draft, commands: &[Written]) -> Result<(), ScriptFault>
     requires begun { draft.old ≡ draft_of draft.old.context.text (has_topology commands.now) 1 start }
     requires kept { IsScriptOf start }
@@ -83,7 +84,7 @@ fn walk(alloc: Global, draft: &mut Draft, commands: &[Written]) -> Result<(), Sc
 }
 
 /// The script that the commands of a text spell. If some command has a fault, the error gives the number of the first such
-/// command, and the first fault of that command.
+/// command, and the first fault of that command. The error may also say that memory ran out.
 fn script_of(alloc: Global, text: Text, commands: &[Written]) -> Result<Script, ScriptFault>
     requires written { IsScript text (record { text = text; commands = commands.now }) }
     requires each { All (IsWritten text) commands.now }

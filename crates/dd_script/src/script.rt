@@ -32,7 +32,7 @@ pub(crate) struct Contents {
 
 /// A script: its topology, nodes, symbols, weights and search limits, what it defines, and what it asks. All numbers in it,
 /// such as weights and the indices in queries, are in range. What it defines has the script's dimension, nodes and symbols.
-/// The script exceeds none of diddy's limits on scripts.
+/// Only `parse` makes scripts, so a script exceeds none of diddy's limits on scripts.
 ///
 /// A value of this type is small: its contents are on the heap.
 #[derive(Drop)]

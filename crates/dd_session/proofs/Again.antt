@@ -1,5 +1,5 @@
--- A check accepts the whole output of a run, and ends with the status of the run. This is so since the answers are right and hence certificates, and
--- since a text is the text of at most one output.
+-- A check accepts the whole output of a run. If the output isn't too long and the check isn't cut short, it ends with the status of the run. This is so
+-- since the answers are right and hence certificates, a text is the text of at most one output, and bytes spell at most one script.
 use Rattle.std.proofs.Common.{◌≡◌, ℕ, zero, suc, ◌+◌, ◌-◌, ◌<◌, ◌≤◌, List, [], ◌∷◌, ◌++◌, length, max, Bool, true, false, Some, None, refl, ap, sym, subst, ◌∙◌, add-one, append_assoc, arith}
 use Rattle.std.proofs.lemmas.List.Elements.{All-nil, All-cons}
 use Rattle.std.specs.{Prelude.Option, Prelude.IsSomeAnd, List.All, List.slice_get}

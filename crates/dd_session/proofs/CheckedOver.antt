@@ -62,7 +62,7 @@ script_over sink o bytes n kind status writable of fault (inr (is, kept)) = subs
 checkable : (o : Output) (s : Parts) → IsWritableOutput o → Spells o.script s → IsCheckable (output_text o) o s
 checkable o s writable spelled = record { output = output_itself o writable; spelled = spelled }
 
--- all queries were accepted
+-- nothing was rejected
 accepted_over : {K : Type 0} (sink : Change K) (o : Output) (s : Parts) (has : Bool) (status : Status) → IsWritableOutput o → Spells o.script s
     → AcceptedAll sink.bytes_old sink.bytes_new s o.answers → has ≡ has_unknown o.answers → status ≡ status_of has
     → CheckedOver sink (output_text o) status
@@ -79,7 +79,7 @@ accepted_over sink o s false status writable spelled accepted is status_is =
       appends = accepted.appends;
     })
 
--- a query was rejected
+-- something was rejected
 rejected_over : {K : Type 0} (sink : Change K) (o : Output) (s : Parts) (status : Status) → IsWritableOutput o → Spells o.script s
     → RejectedHere sink.bytes_old sink.bytes_new s o.answers → status ≡ Rejected → CheckedOver sink (output_text o) status
 rejected_over sink o s status writable spelled here status_is =

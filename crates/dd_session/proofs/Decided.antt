@@ -1,4 +1,4 @@
--- What the status of a run says about the bytes of the source, if these are known.
+-- How a run ended, and what its status says about the bytes of the source, if these are known.
 -- A comment that only says what happened names the case that its lemma is about.
 use Rattle.std.proofs.Common.{◌≡◌, ◌≢◌, inl, inr, ℕ, suc, ◌+◌, ◌≤◌, List, [], Bool, refl, true, false, ◌++◌, None, Some, sym, ◌∙◌, ap, subst, length, arith, append-nil, length-append}
 use Rattle.std.proofs.KnownBytes.{Consumes-nil}

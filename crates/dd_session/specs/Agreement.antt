@@ -18,7 +18,7 @@ pub record IsRunOutput (bytes : List ℕ) (s : Parts) (has : Bool) (text : List 
   pub unknown_is : has_unknown answers ≡ has
   pub text_is : text ≡ output_of bytes answers
 
--- The check wasn't cut short: nothing failed, and memory sufficed.
+-- The status is that of a check that wasn't cut short: nothing failed, and memory sufficed.
 abbrev pub IsJudgement : Status → Type 0
 IsJudgement Definite = Unit {0}
 IsJudgement SomeUnknown = Unit {0}

@@ -75,7 +75,8 @@ OfBytes source P = Read source.bytes_old source.bytes_new P
 abbrev pub IsTooLong : {S : Type 0} → Change S → Type 0
 IsTooLong source = GivesMore source.bytes_old source.bytes_new most_checked
 
--- What a check read and wrote, for each status. `ReadFault` comes only if the source failed in this call, and `WriteFault` only if the sink did.
+-- What a check read and wrote, for each status. `ReadFault` comes only if the source's count of faults rose in this call, and `WriteFault` only if the
+-- sink's did, in the sense of `Rose`.
 abbrev pub CheckEnded : {S K : Type 0} → Change S → Change K → Status → Type 0
 CheckEnded source sink Definite = OfBytes source (WholeCheck sink.bytes_old sink.bytes_new false)
 CheckEnded source sink SomeUnknown = OfBytes source (WholeCheck sink.bytes_old sink.bytes_new true)

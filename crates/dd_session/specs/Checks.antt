@@ -39,11 +39,11 @@ script_line command k = refused_line (codes "refused script") command k
 
 -- ---- which answers are accepted
 
--- there are a query and an answer with this number, counted from 1, and the answer is a certificate for the query
+-- there are a query and an answer with this number, counted from 1 (0 counts as 1), and the answer is a certificate for the query
 abbrev pub IsAcceptedAt : Parts → List Answer → ℕ → Type 0
 IsAcceptedAt s answers number = IsSomeAnd (slice_get answers (number - 1)) (λ a. IsCertificate s number a)
 
--- there is an answer with this number, and what it claims is true
+-- there are a query and an answer with this number, counted from 1 (0 counts as 1), and what the answer claims is true
 abbrev pub IsTrueAt : Parts → List Answer → ℕ → Type 0
 IsTrueAt s answers number = IsSomeAnd (slice_get answers (number - 1)) (λ a. Claim s number a)
 

@@ -12,7 +12,7 @@ pub mod Runs
 pub mod Asking
 -- what the run of a sample writes, for each status
 pub mod Samples
--- the answers of a run, and whether some query has no definite answer
+-- the answers of a run, whether some query has no definite answer, and the texts of answers
 pub mod Answers
 -- the whole output of a run, and the lines for inputs that are refused
 pub mod Output
@@ -20,7 +20,7 @@ pub mod Output
 pub mod Checked
 -- the lines that a check writes, which answers it accepts, and which bytes it accepts, rejects or refuses
 pub mod Checks
--- a check accepts what a run wrote
+-- the output of a run, and the checks that aren't cut short
 pub mod Agreement
 -- the check of answers one by one
 pub mod checking

@@ -93,7 +93,8 @@ RanOver sink bytes ReadFault = ⊥
 RanOver sink bytes BadWords = ⊥
 RanOver sink bytes Rejected = ⊥
 
--- What a run read and wrote, for each status. `ReadFault` comes only if the source failed in this call, and `WriteFault` only if the sink did.
+-- What a run read and wrote, for each status. `ReadFault` comes only if the source's count of faults rose in this call, and `WriteFault` only if the
+-- sink's did, in the sense of `Rose`.
 abbrev pub Ended : {S K : Type 0} → Change S → Change K → Status → Type 0
 Ended source sink Definite = RanWhole source.bytes_old source.bytes_new sink.bytes_old sink.bytes_new false
 Ended source sink SomeUnknown = RanWhole source.bytes_old source.bytes_new sink.bytes_old sink.bytes_new true

@@ -19,7 +19,7 @@ pub record Change (X : Type 0) : Type 0 where
   -- the bytes left in the source or held by the sink, if they are known
   pub bytes_old : Option (List ℕ)
   pub bytes_new : Option (List ℕ)
-  -- how often the source or the sink has failed
+  -- the count of faults of the source or the sink
   pub faults_old : ℕ
   pub faults_new : ℕ
 
@@ -35,7 +35,7 @@ IsUntouched side = side.new ≡ side.old
 abbrev pub HasFailed : {X : Type 0} → Change X → Type 0
 HasFailed side = Rose side.faults_old side.faults_new
 
--- The line for a refused input was written, or a prefix of it if the sink failed.
+-- The line for a refused input was written; or, with the status `WriteFault`, a prefix of it, and `HasFailed` holds for the sink.
 abbrev pub RefusedBy : {K : Type 0} → Change K → List ℕ → Status → Type 0
 RefusedBy sink line Refused = Appends sink.bytes_old sink.bytes_new line
 RefusedBy sink line WriteFault = GainsFront sink.bytes_old sink.bytes_new line × HasFailed sink
@@ -46,7 +46,7 @@ RefusedBy sink line Memory = ⊥
 RefusedBy sink line BadWords = ⊥
 RefusedBy sink line Rejected = ⊥
 
--- The line for bytes that aren't a script was written, or a prefix of this line if the sink failed. The line begins with `words`.
+-- The line for bytes that aren't a script was written, or a prefix of this line, as `RefusedBy` says. The line begins with `words`.
 pub record LineRefused {K : Type 0} (sink : Change K) (words : List ℕ) (command : ℕ) (kind : ScriptKind) (status : Status) : Type 0 where
   pub line : List ℕ
   pub line_is : IsLineOf words command kind line

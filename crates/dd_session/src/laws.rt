@@ -1,4 +1,4 @@
-//! A check accepts what a run writes.
+//! A check accepts the whole output of a run, if the output isn't too long.
 ghost use Rattle.std.specs.Prelude.{◌≡◌, ◌≤◌, ℕ, List, Bool, length};
 ghost use Rattle.dd_session.specs.declared.status.Status.{Status as AnyStatus};
 ghost use Rattle.dd_session.specs.Sides.{status_of};

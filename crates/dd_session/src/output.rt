@@ -34,8 +34,8 @@ fn limit_text(limit: Limit) -> &'static str
     }
 }
 
-// The line for a refused command. It has `words`, the command's number, `fault` and `name`. Here `name` may also be the word for a
-// limit, or empty. If it isn't empty, `fault` ends with a space.
+// The line for a refused command. It has `words`, the command's number, `fault` and `name`. Here `name` may also be the word
+// for a limit, or empty. If it isn't empty, `fault` ends with a space.
 fn refused_line(
     alloc: Global,
     words: &str,

@@ -249,9 +249,9 @@ fn run_sample<K: Sink, E: Engine>(
 ///
 /// `check` reads an output and checks it, as `check_diddy` says.
 ///
-/// `sample N` runs the sample script with the number N, whose text `sample_script` gives. N is a number from 1 to 16,384, written
-/// in decimal without a leading zero. For each query the first line of a right answer is written as soon as it is known. The line
-/// `end` comes last. The source is left as it is.
+/// `sample N` runs the sample script with the number N, whose text `sample_script` gives. N is a number from 1 to 16,384,
+/// written in decimal without a leading zero. For each query the first line of a right answer is written as soon as it is
+/// known. The line `end` comes last. The source is left as it is.
 ///
 /// If the source fails, nothing is written. If the sink fails or memory runs out, perhaps only a prefix of the full text was
 /// written.
@@ -261,11 +261,11 @@ fn run_sample<K: Sink, E: Engine>(
 /// its status and the first line of each answer don't depend on the roster. With some rosters it may not come to its end, since
 /// an engine may run out of memory.
 ///
-/// On every return all sound engines are still in the roster, in the same order. The header of an output is all lines before the
-/// first answer. `run` asks no engine before the whole header is written, and none for an input that is refused. `check` asks
-/// no engine. If a run, or the run of a sample, comes to its end and some query comes down to box questions, then the first
-/// engine still in the roster, if there is one, was asked. All engines that stood ahead of it were dropped, and none of these
-/// was sound.
+/// On every return all sound engines are still in the roster, in the same order. The header of an output is all lines before
+/// the first answer. `run` asks no engine before the whole header is written, and none for an input that is refused. `check`
+/// asks no engine. If a run, or the run of a sample, comes to its end and some query comes down to box questions, then the
+/// first engine still in the roster, if there is one, was asked. All engines that stood ahead of it were dropped, and none of
+/// these was sound.
 pub fn run_diddy<S: Source, K: Sink>(
     alloc: Global,
     words: &[String],

@@ -159,8 +159,8 @@ pub(crate) fn answer_to_end<K: Sink, E: Engine>(
     Ok(has_unknown)
 }
 
-/// Runs a script: writes its output to the sink. True if some answer is UNKNOWN. The header is all lines before the first answer.
-/// No engine is asked before the whole header is written.
+/// Runs a script: writes its output to the sink. True if some answer is UNKNOWN. The header is all lines before the first
+/// answer. No engine is asked before the whole header is written.
 pub(crate) fn run_script<K: Sink, E: Engine>(
     alloc: Global,
     bytes: &[u8],

@@ -1,12 +1,12 @@
--- Gifts along vectors. What a position gives depends on its surroundings, and is bounded. Suppose that for each position of a box, the same number
--- `held` plus what the position gives is at most its weight plus what it receives. Then `held` times the number of positions is at most the weight of
--- the box, plus the most that may come in from outside. All weights are multiplied by `common`.
+-- Gifts along vectors. What a position gives along a vector is bounded. Suppose that for each position of a box, the same number `held` plus what the
+-- position gives is at most its weight plus what it receives. Then `held` times the number of positions is at most the weight of the box, plus an
+-- upper bound for what comes in from outside. All weights are multiplied by `common`.
 use Rattle.std.proofs.Common.{◌≡◌, ℕ, ◌+◌, ◌-◌, ◌*◌, ◌≤◌, List, [], ◌∷◌, ap, arith}
 use Rattle.dd_lattice.specs.{Place.Place, Regions.seen_from}
 use Rattle.dd_sides.specs.Sums.{Size, box_sum, size_volume}
 use Rattle.dd_sides.specs.lemmas.BoxLaws.{IsAt, kept, box_moved, box_at_most, box_add, box_times, box_const, box_shifted, kept_at_most}
 
--- what each position gives along one vector, and the most that any gives
+-- what each position gives along one vector, and an upper bound for it
 pub record Gift : Type 0 where
   pub along : Place
   pub most : ℕ
@@ -23,7 +23,7 @@ abbrev pub received : List Gift → Place → ℕ
 received [] p = 0
 received (g ∷ gs) p = g.give (seen_from g.along p) + received gs p
 
--- the most that may come in from outside
+-- an upper bound for what comes in from outside: for each vector, the upper bound `most` times the number of positions that receive from outside
 abbrev pub comes_in : Size → List Gift → ℕ
 comes_in s [] = 0
 comes_in s (g ∷ gs) = g.most * (size_volume s - kept s g.along) + comes_in s gs

@@ -1,4 +1,4 @@
--- Side(n): how many positions it has, and how many of them receive from inside it.
+-- Side(n): how many positions it has, and how many of them receive along a vector from inside it and from outside it.
 use Rattle.std.proofs.Common.{◌≡◌, ℕ, zero, suc, ◌-◌, ◌*◌, ◌^◌, ◌≤◌, Bool, true, false, refl, ap, ◌∙◌, arith}
 use Rattle.std.proofs.lemmas.Bool.{and_parts, lt-ltb, Decides.Decides-int_eq}
 use Rattle.std.specs.{Prelude.ℤ, Prelude.pos, Prelude.unsigned_abs, Prelude.◌||◌, Prelude.nat_lt, Ordering.int_eq}

@@ -1,5 +1,5 @@
--- The boundary term of a bound: the most that Side(n), the box of side n, may receive from outside. Along each vector, this is
--- the greatest amount times the number of positions that receive from outside.
+-- The boundary term of a bound: an upper bound for what Side(n), the box of side n, receives from outside. Along each vector,
+-- this is the greatest amount times the number of positions that receive from outside.
 use Rattle.std.specs.Prelude.{ℕ, ◌+◌, ◌-◌, ◌*◌, ◌^◌, Bool, cond, ℤ, unsigned_abs, List, [], ◌∷◌, take, drop}
 use Rattle.dd_lattice.specs.{Place.Place, Boxes.is_active}
 use Rattle.dd_expansion.specs.Limits.{greatest}

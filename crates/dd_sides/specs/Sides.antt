@@ -1,5 +1,5 @@
--- Side(n), the box of side n, moved to a position of Z^d. It has n consecutive coordinates on each active axis, and only 0 on
--- the others. The first d axes are active.
+-- Side(n), the box of side n, moved to a position of Z^d, and its weight; the box grown along each active axis, and fillings of
+-- the grown box. Side(n) has n consecutive coordinates on each active axis, and only 0 on the others. The first d axes are active.
 use Rattle.std.specs.Prelude.{ℕ, ◌+◌, ◌≡◌, ◌↔◌, Bool, true, ◌&&◌, cond, is_some, nat_lt, int_le, int_lt, ℤ, pos, ◌+ℤ◌, ◌-ℤ◌, unwrap_or, List, map}
 use Rattle.std.specs.{List.range_with_len, Ordering.int_eq}
 use Rattle.dd_lattice.specs.{Place.Place, Cells.cell, Boxes.is_active, Boxes.IsInSide, Boxes.IsCentred, Regions.seen_from}
@@ -16,11 +16,11 @@ side_length active n = cond active n 1
 abbrev pub side : ℕ → ℕ → Size
 side d n = box_sizes (side_length (is_active d 0) n) (side_length (is_active d 1) n) (side_length (is_active d 2) n)
 
--- on an active axis, c is within e of one of the n coordinates from a on; on any other axis, c is 0
+-- For n at least 1: on an active axis, c is within e of one of the n coordinates from a on; on any other axis, c is 0.
 abbrev pub is_near_run : Bool → ℕ → ℕ → ℤ → ℤ → Bool
 is_near_run active n e a c = cond active (int_le (a -ℤ pos e) c && int_lt c (a +ℤ pos (n + e))) (int_eq c (pos 0))
 
--- p is in the grown box, which is Side(n) moved to u and grown by e along each active axis
+-- p is in the grown box, which is Side(n) moved to u and grown by e along each active axis, for n at least 1
 abbrev pub is_in_grown : ℕ → ℕ → ℕ → Place → Place → Bool
 is_in_grown d n e u p =
     is_near_run (is_active d 0) n e u.x p.x && is_near_run (is_active d 1) n e u.y p.y && is_near_run (is_active d 2) n e u.z p.z

@@ -1,4 +1,4 @@
--- Steps of the loops over cells.
+-- Steps of the loops over cells and over lines, and what a checked product or difference gives. Solving a line keeps the number of its cells.
 use Rattle.std.proofs.Common.{◌≡◌, ℕ, ◌+◌, ◌<◌, List, [], ◌∷◌, ◌++◌, length, take, drop, get_or, Option, Some, None, Bool, true, false, cond, ◌&&◌, refl, sym, ap, subst, ◌∙◌, arith, drop-cons, add-one, append_assoc, ◌^◌}
 use Rattle.std.proofs.lemmas.List.{length-map, length-set, take_more_set, drop-set-lt}
 use Rattle.std.proofs.lemmas.{List.Edits.map_over_more, List.Folds.list_all_more, Grind.common_steps, Int.ints}
@@ -16,7 +16,7 @@ product_gives a b q e = by (does_product_fit a b) refl
     by true s = let k : Some q ≡ Some (times a b) = e ∙ ap (λ (u : Bool). cond u (Some (times a b)) None) s in (s, cc)
     by false s = let n : Option Exact = None in let k : Some q ≡ n = e ∙ ap (λ (u : Bool). cond u (Some (times a b)) None) s in absurd cc
 
--- a place that the loop has not reached has its old value
+-- the place that the loop reaches next still has its old value
 unread : (f : Exact → Exact) (xs ys : List Exact) (i : ℕ) (x : Exact) → i < length xs → ys ≡ map f (take i xs) ++ drop i xs → get_or ys i x ≡ get_or xs i x
 unread f xs ys i x p e = grind (arith, common_steps, length-map (take i xs) f)
 
@@ -86,7 +86,7 @@ in_place_step f fit xs ys i x y p is all e t s =
     let at : fit (get_or xs i x) ≡ true = ap fit (sym same) ∙ t in
     (rw (list_all_more fit xs i x p, all, at) refl, ap (slice_set ys i) s ∙ map_over_more f xs ys i x p e is)
 
--- the numbers of 0 - q fit if the numerator and the denominator of q fit
+-- the numbers of 0 - q fit if the numerator and the denominator of q fit, and the denominator is not 0
 pub emptied_fits : (q : Exact) → 0 < q.den → unsigned_abs q.num < 2 ^ 127 → q.den < 2 ^ 127 → does_sum_fit zero_of (minus q) ≡ true
 unfolding one
 emptied_fits q o p r =

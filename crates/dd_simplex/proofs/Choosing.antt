@@ -1,4 +1,4 @@
--- A choice among the first n places, and the order by ratio, then by variable.
+-- A choice among the first n places, the order by ratio, then by variable, and the steps of the loop that chooses the line whose variable leaves.
 use Rattle.std.proofs.Common.{◌≡◌, ◌≢◌, ℕ, ◌+◌, ◌≤◌, List, Option, Some, None, Bool, true, false, ◌&&◌, ◌||◌, ⊎_elim, sym, ap, subst, ◌∙◌, arith}
 use Rattle.std.proofs.lemmas.{Int.ints, Bool.cases_eq}
 use Rattle.std.specs.{Bool.nat_lt, Int.RustNames.int_lt, Ordering.is_lt, Ordering.is_eq, declared.cmp.Ordering.Ordering}

@@ -1,5 +1,6 @@
--- At the end, the columns have feasible values, and the duals are feasible. The dual objective is equal to the value of column 0. So no other
--- feasible values of the columns give column 0 a greater value.
+-- In each dictionary that a run reaches, the rows are linear combinations of the program's rows, and the objective is column 0, less such a
+-- combination. At the end, the columns have feasible values, and the duals are feasible. The dual objective is equal to the value of column 0. So no
+-- other feasible values of the columns give column 0 a greater value.
 use Rattle.std.proofs.Common.{◌≡◌, ◌≢◌, ℕ, zero, suc, ◌+◌, ◌-◌, ◌<◌, List, length, Bool, true, false, cond, None, refl, sym, ap, subst, ◌∙◌, arith}
 use Rattle.std.specs.Bool.{nat_lt}
 use Rattle.dd_fraction.specs.{Exact.Exact, Exact.plus, Exact.times, Exact.minus, Exact.low, Order.IsNonneg, Order.IsAtMost}

@@ -1,4 +1,4 @@
--- The least number with a property, and properties of all numbers below n.
+-- Numbers below n: properties of all of them, the least one with a property, and one at which a key is least.
 use Rattle.std.proofs.Common.{◌≡◌, ◌≢◌, ℕ, zero, suc, ◌<◌, Option, Some, None, Bool, true, false, ◌&&◌, cond, ◌⊎◌, inl, inr, ⊎_elim, refl, sym, ap, subst, ◌∙◌, arith}
 use Rattle.std.proofs.lemmas.Bool.{cases_eq}
 use Rattle.dd_fraction.specs.{Exact.Exact, Order.IsAtMost}

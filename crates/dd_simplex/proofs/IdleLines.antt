@@ -1,5 +1,6 @@
--- In a pivot, a line whose cell for the entering variable is 0 stays as it is, and no number in this step is too large. The lines of a table and the
--- solved line of a pivot consist of fractions in lowest terms that fit.
+-- In a pivot, a line whose cell for the entering variable is 0 stays as it is, and no number in this step is too large. The lines of a table consist of
+-- fractions in lowest terms that fit, and so does the solved line of a pivot, if no number was too large. Each line of a table has one cell for each
+-- nonbasic variable.
 use Rattle.std.proofs.Common.{◌≡◌, ◌≢◌, ℕ, suc, ◌<◌, List, [], ◌∷◌, length, drop, true, ◌&&◌, refl, sym, ap, subst, ◌∙◌, arith}
 use Rattle.std.proofs.lemmas.List.{set-get_or}
 use Rattle.std.proofs.lemmas.List.Elements.{All-get_or, All-from_get_or, All-set, All-map, All-drop, All-weaker}

@@ -1,4 +1,5 @@
--- If a table stands for a dictionary, the table after a pivot stands for the dictionary after the same pivot.
+-- If a table stands for a dictionary, the table after a pivot stands for the dictionary after the same pivot. If all numbers of the pivot fit, the new
+-- table is well formed.
 use Rattle.std.proofs.Common.{◌≡◌, ◌≢◌, ℕ, ◌<◌, List, length, Bool, true, false, cond, ⊎_elim, refl, sym, ap, subst, ◌∙◌, arith}
 use Rattle.std.proofs.lemmas.{Bool.cases_eq, List.length-set, List.get_or-set_same, List.get_or-set_other}
 use Rattle.std.specs.{Bool.nat_eq, List.slice_set, List.list_all}
@@ -261,7 +262,7 @@ module _ (n : ℕ) (t : Table) (d : Dictionary) (k : IsTable t) (s : StandsFor n
         subst IsFraction (sym (solved_at E e j (line_at t.lines r) (in_row j p)))
         (product_fraction (fraction_at (slice_set (line_at t.lines r).cells e one_of) j) (inverse p_cell) (divided_above j p) upside.above f)
 
-    -- if the numbers fit, the coefficients `us`, less q times those of the solved line, are fractions in lowest terms that fit
+    -- if the numbers fit, the coefficients `us`, with 0 at the place e, less q times those of the solved line, are fractions in lowest terms that fit
     less_fractions : (q : Exact) (us : List Exact) (j : ℕ) → length us ≡ length t.others → IsFraction q → ((i : ℕ) → i < length t.others → IsFraction (fraction_at us i))
         → do_all_less_fit q (slice_set us e zero_of) pivot.cells ≡ true → j < length t.others → IsFraction (fraction_at (less q (slice_set us e zero_of) pivot.cells) j)
     less_fractions q us j h o is f p =

@@ -1,4 +1,5 @@
--- Throughout the run, the table stands for a dictionary, and the rest of the run from this dictionary stops as the whole run does.
+-- Throughout the run, the table stands for a dictionary, and the rest of the run from this dictionary stops as the whole run does. If no variable
+-- enters any more, what the code reads off the table is the result of the run.
 use Rattle.std.proofs.Common.{◌≡◌, ◌≢◌, ℕ, zero, suc, ◌+◌, ◌<◌, List, length, Bool, true, false, ◌&&◌, cond, Option, Some, None, ⊎_elim, refl, sym, ap, subst, ◌∙◌, arith}
 use Rattle.std.proofs.lemmas.{Int.ints, List.length-set}
 use lib.IntN.{ℤ, pos}

@@ -1,4 +1,4 @@
--- The first table stands for the first dictionary.
+-- The first table is well formed and stands for the first dictionary.
 use Rattle.std.proofs.Common.{◌≡◌, ℕ, ◌+◌, ◌-◌, ◌<◌, ◌≤◌, length, Bool, true, false, cond, sym, ap, subst, ◌∙◌, arith}
 use Rattle.std.specs.Bool.{nat_eq}
 use lib.IntN.{pos}

@@ -1,7 +1,8 @@
 -- A dictionary gives its basic variables v, and the objective z, in terms of its nonbasic variables w:
 -- x_v = bound v - Σ_w entry v w · x_w and z = value + Σ_w cost w · x_w (Dantzig, Linear Programming and Extensions, 1963;
 -- in this form Chvátal, Linear Programming, 1983). The equation for x_v is the row of v.
--- Column j is the variable j, and the slack of row k is the variable columns + k.
+-- Column j is the variable j, and the slack of row k is the variable columns + k. The bound of v matters only if v is basic, the cost of w only if w is
+-- nonbasic, and the entry of v at w only if both hold. A run begins with a program's first dictionary, and each pivot makes the next one.
 use Rattle.std.specs.Prelude.{ℕ, ◌+◌, ◌-◌, length, Bool, not, ◌&&◌, ◌||◌, cond}
 use Rattle.std.specs.Bool.{nat_eq, nat_lt}
 use Rattle.dd_fraction.specs.Exact.{Exact, plus, times, minus, inverse}
@@ -41,7 +42,8 @@ new_bound d e r = fraction_quotient (d.bound r) (d.entry r e)
 abbrev pub new_entry : Dictionary → ℕ → ℕ → ℕ → Exact
 new_entry d e r w = fraction_quotient (cond (nat_eq w r) one_of (d.entry r w)) (d.entry r e)
 
--- the new coefficient of w in a row or in the objective, where the old coefficient of w was a and that of e was q
+-- the new coefficient of w in a row that stays or in the objective, where the old coefficient of w was a and that of e was q; for r, which was basic
+-- and so had the coefficient 0, a is not used
 abbrev pub replaced : Dictionary → ℕ → ℕ → Exact → ℕ → Exact → Exact
 replaced d e r q w a = cond (nat_eq w r) (minus (times q (new_entry d e r w))) (less_product a q (new_entry d e r w))
 

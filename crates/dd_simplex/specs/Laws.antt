@@ -56,13 +56,14 @@ pub record IsReducedObjective (p : LinearProgram) (d : Dictionary) : Type 0 wher
       → plus (price d j) (fraction_sum (λ k. times (minus (price d (p.columns + k))) (coefficient p k j)) (length p.rows)) ≡ low (unit 0 j)
   pub value : low d.value ≡ fraction_sum (λ k. times (minus (price d (p.columns + k))) (bound_at p k)) (length p.rows)
 
--- The row of each basic variable is a linear combination of the program's rows, and the objective is column 0, less such a combination. No bound is
--- below 0. Whenever a variable enters, another leaves.
+-- The row of each basic variable is a linear combination of the program's rows, and the objective is column 0, less such a combination. No bound of a
+-- basic variable is below 0. If a variable enters, another leaves.
 pub record IsSoundDictionary (p : LinearProgram) (d : Dictionary) : Type 0 where
   pub rows : (v : ℕ) → v < count p → d.is_basic v ≡ true → IsCombination p d v
   pub objective : IsReducedObjective p d
   pub bounds : (v : ℕ) → v < count p → d.is_basic v ≡ true → IsNonneg (d.bound v)
   pub leaves : (e : ℕ) → entering (count p) d ≡ Some e → leaving (count p) d e ≡ None → ⊥
 
+-- each dictionary to which pivots by Bland's rule lead from the first one is sound, however many pivots there are and however large the numbers
 abbrev pub AreSoundDictionaries : LinearProgram → Type 0
 AreSoundDictionaries p = (k : ℕ) (d : Dictionary) → dictionary_after (count p) k (start_dictionary p) ≡ Some d → IsSoundDictionary p d

@@ -24,7 +24,7 @@ abbrev pub or_else : Option ℕ → Option ℕ → Option ℕ
 or_else None o = o
 or_else (Some m) o = Some m
 
--- the least number below n of which f is true
+-- the least number below n of which f is true, or `None` if there is none
 abbrev pub first_below : (ℕ → Bool) → ℕ → Option ℕ
 first_below f zero = None
 first_below f (suc n) = or_else (first_below f n) (cond (f n) (Some n) None)
@@ -33,11 +33,11 @@ first_below f (suc n) = or_else (first_below f n) (cond (f n) (Some n) None)
 abbrev pub may_enter : Dictionary → ℕ → Bool
 may_enter d w = not (d.is_basic w) && is_over (d.cost w)
 
--- of the first n variables, the one that enters
+-- of the first n variables, the one that enters, or `None` if none may
 abbrev pub entering : ℕ → Dictionary → Option ℕ
 entering n d = first_below (may_enter d) n
 
--- how far the entering variable e can grow before the basic variable v falls to 0
+-- how far the entering variable e can grow before the basic variable v falls to 0, if v falls as e grows
 abbrev pub ratio : Dictionary → ℕ → ℕ → Exact
 ratio d e v = fraction_quotient (d.bound v) (d.entry v e)
 
@@ -50,7 +50,7 @@ abbrev pub may_leave : ℕ → Dictionary → ℕ → ℕ → Bool
 may_leave n d e v =
     is_limiting d e v && all_below (λ u. not (is_limiting d e u) || not (is_gt (exact_cmp (ratio d e v) (ratio d e u)))) n
 
--- of the first n variables, the one that leaves when e enters
+-- of the first n variables, the one that leaves when e enters, or `None` if none may
 abbrev pub leaving : ℕ → Dictionary → ℕ → Option ℕ
 leaving n d e = first_below (may_leave n d e) n
 

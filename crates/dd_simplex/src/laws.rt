@@ -13,9 +13,10 @@ pub fn one_stop(_program: &Program, _pivots: u32)
     let _columns = _program.columns();
 }
 
-/// Does nothing; its contract is about the dictionaries of a run. Their rows, which are the equations of the basic variables,
-/// are linear combinations of the program's rows. Their objective is column 0, less such a combination. No bound of a basic
-/// variable falls below 0. Whenever a variable enters, another leaves, so no run finds column 0 unbounded.
+/// Does nothing; its contract is about the dictionaries of a run that has no limit on its pivots and its numbers. Their rows,
+/// which are the equations of the basic variables, are linear combinations of the program's rows. Their objective is column 0,
+/// less such a combination. No bound of a basic variable falls below 0. Whenever a variable enters, another leaves, so no run
+/// finds column 0 unbounded.
 pub fn sound_pivots(_program: &Program)
     ensures { AreSoundDictionaries _program.now }
 {

@@ -1,4 +1,5 @@
-//! A line of a dictionary: one basic variable in terms of the nonbasic ones.
+//! Lines of a dictionary, and their part in a pivot. A line gives one basic variable in terms of the nonbasic ones. If a call
+//! that changes lines returns false, these lines are then unusable.
 ghost use Rattle.std.specs.Prelude.{◌≡◌, ◌≢◌, ◌<◌, true, List, length, map};
 ghost use Rattle.std.specs.List.{list_all, All};
 ghost use lib.IntN.{pos};
@@ -93,7 +94,7 @@ fn is_zero(fraction: &Fraction) -> bool
     fraction.num() == 0
 }
 
-/// Divides each cell by `by`. Returns false if a number is too large; then only some of the cells are divided.
+/// Divides each cell by `by`. Returns false if a number is too large; then the cells from there on are not divided.
 fn divide(cells: &mut [Fraction], by: &Fraction) -> bool
     requires { by.now.num ≢ pos 0 }
     ensures fits { result ≡ list_all (λ a. does_product_fit a (inverse by.now)) cells.old }
@@ -108,8 +109,8 @@ fn divide(cells: &mut [Fraction], by: &Fraction) -> bool
     true
 }
 
-/// Subtracts `factor` times `others` from the cells, place by place. Returns false if a number is too large; then only some of
-/// the cells are changed.
+/// Subtracts `factor` times `others` from the cells, place by place. Returns false if a number is too large; then the cells
+/// from there on are unchanged.
 pub fn subtract(cells: &mut [Fraction], factor: &Fraction, others: &[Fraction]) -> bool
     requires { length cells.old ≡ length others.now }
     ensures fits { result ≡ do_all_less_fit factor.now cells.old others.now }

@@ -1,4 +1,4 @@
-//! The simplex method: pivots by Bland's rule until no variable may enter.
+//! The simplex method: pivots by Bland's rule until no variable may enter, within a limit on their number.
 ghost use Rattle.std.specs.Prelude.{◌≡◌, IfOk, IfErr};
 ghost use Rattle.dd_simplex.specs.Programs.{IsBest};
 ghost use Rattle.dd_simplex.specs.Runs.{RunEnds, IsRunRefusal};

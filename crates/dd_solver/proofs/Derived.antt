@@ -1,4 +1,5 @@
--- Each learned step is right, given the steps before it, and later steps may use its clause as a hint.
+-- Each learned step is right, given the steps before it, and later steps may use its clause as a hint. After it the trail is still right, and the
+-- variables of the known clauses are still in range. If the last step's clause is empty, the steps refute the clauses.
 use Rattle.std.proofs.Common.{◌≡◌, ℕ, suc, ◌+◌, Bool, true, ◌&&◌, List, [], ◌∷◌, ◌++◌, Option, Some, None, refl, ◌∙◌, subst, length, get_or, take, inl, inr, arith}
 use Rattle.std.proofs.lemmas.{Bool.and_parts, Bool.and_from, Bool.or_right, Bool.leb-true, List.length-append}
 use Rattle.std.proofs.lemmas.List.Elements.{All-cons, All-nil}

@@ -1,5 +1,5 @@
--- The marked steps of a refutation are a refutation too. A hint of a marked step names a clause of the list or of a
--- marked step. So this clause is known under its new number where the hint is used.
+-- The marked steps of a refutation are a refutation too. A hint of a marked step names a clause of the list or of a marked step. So this clause is
+-- known under its new number where the hint is used. Each marked step but the last is used, and none deletes a clause.
 use Rattle.std.proofs.Common.{◌≡◌, ℕ, suc, ◌<◌, ◌≤◌, Bool, true, false, cond, ◌&&◌, ◌||◌, List, [], ◌∷◌, ◌++◌, map, Option, Some, None, refl, ap, sym, ◌∙◌, subst, length, inl, inr, ◌⊎◌, arith}
 use Rattle.std.proofs.lemmas.Bool.{and_parts, and_from, or_cases, or_left, or_right, false≢true, eqb-true, eq-eqb}
 use Rattle.std.proofs.lemmas.List.{length-append, Elements.All-nil, Elements.All-cons}
@@ -92,7 +92,7 @@ right_kept n keep rename old new s k a r =
 abbrev after_step : Known → Step → Known
 after_step old s = known_after old s.deletes ++ Some s.clause ∷ []
 
--- the kept steps refute the clauses
+-- if the steps refute the clauses, so do the kept steps
 pub refutes_kept : (n : ℕ) (keep : ℕ → Bool) (rename : ℕ → ℕ) (next last : ℕ) (marked : List Bool) (steps : List Step) (old new : Known) → length marked ≡ length steps → next ≡ suc (length old) → last ≡ length new → Plan keep rename next last marked steps → Agree keep rename old new → refutes_from n old steps ≡ true → refutes_from n new (kept_steps rename marked steps) ≡ true
 refutes_kept n keep rename next last [] [] old new l o w p a r = absurd (false≢true r)
 refutes_kept n keep rename next last [] (s ∷ steps) old new l o w p a r = absurd (omega arith)

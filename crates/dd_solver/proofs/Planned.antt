@@ -1,4 +1,5 @@
--- The marks and the new numbers fit together as `Plan` in `Kept` requires, so the marked steps refute the clauses.
+-- The marks and the new numbers fit together as `Plan` in `Kept` requires, so the marked steps refute the clauses, and each of them but the last is
+-- used.
 use Rattle.std.proofs.Common.{◌≡◌, ℕ, zero, suc, ◌+◌, ◌-◌, ◌<◌, Bool, true, false, cond, ◌||◌, List, [], ◌∷◌, refl, ap, sym, ◌∙◌, subst, length, get_or, drop, leb, inl, inr, ◌⊎◌, arith}
 use Rattle.std.proofs.lemmas.Bool.{or_left, or_right, and_from, false≢true, le-leb, lt-leb, cases_lt}
 use Rattle.std.proofs.lemmas.List.{get_or-drop, length-drop}
@@ -108,7 +109,7 @@ agree clauses marked numbers h x k e =
     let l : leb h (length clauses) ≡ true = le-leb h (length clauses) (omega (arith, length-all clauses, w)) in
     rw l e
 
--- the marked steps with their new numbers refute the clauses
+-- if the steps refute the clauses, so do the marked steps with their new numbers
 pub marked_refute : (n : ℕ) (clauses : List (List Literal)) (steps : List Step) (marked : List Bool) → IsMarking (length clauses) 0 steps marked → refutes n clauses steps ≡ true → refutes n clauses (kept_steps (renamed (length clauses) (numbers_from (length clauses) marked)) marked steps) ≡ true
 marked_refute n clauses steps marked m r =
     let c = length clauses in

@@ -19,7 +19,7 @@ number_below zero (d ∷ ds) = omega arith
 number_below (suc n) (true ∷ ds) = rw (three n) (omega (arith, number_below n ds))
 number_below (suc n) (false ∷ ds) = rw (three n) (omega (arith, number_below n ds))
 
--- the number rises when an entry is added
+-- the number rises when an entry is added to fewer than n entries
 number_rises : (n : ℕ) (ds : List Bool) (d : Bool) → length ds < n → trail_number n ds < trail_number n (ds ++ d ∷ [])
 unfolding trail_number
 number_rises zero ds d h = absurd (omega arith)
@@ -27,7 +27,7 @@ number_rises (suc n) [] true h = omega (arith, positive n)
 number_rises (suc n) [] false h = omega (arith, positive n)
 number_rises (suc n) (x ∷ ds) d h = omega (arith, number_rises n ds d (omega arith))
 
--- the number rises when a decided entry becomes a forced one and the entries after it are dropped
+-- the number rises when a decided entry, one of the first n, becomes a forced one and the entries after it are dropped
 number_rises-return : (n : ℕ) (ds es : List Bool) → length ds < n → trail_number n (ds ++ true ∷ es) < trail_number n (ds ++ false ∷ [])
 unfolding trail_number
 number_rises-return zero ds es h = absurd (omega arith)

@@ -263,7 +263,7 @@ fn bump_marked(order: &mut Order, trail: &Trail, marked: &mut [bool], literals: 
     }
 }
 
-/// Unmarks these variables, and makes them more active, unless they are fixed.
+/// Unmarks these variables. Those that aren't fixed become more active.
 fn bump_variables(order: &mut Order, trail: &Trail, marked: &mut [bool], variables: &[u32]) {
     for variable in variables {
         let place = *variable as usize;

@@ -12,7 +12,7 @@ use dd_clause::Literal;
 use dd_trail::{Database, Entry, Trail};
 use std::alloc::{AllocError, Global};
 
-/// The number of learned clauses at the first review.
+/// The first review comes with the clause that is learned after this many.
 const FIRST_REVIEW: usize = 700;
 
 /// The gap at the start. The gap is the number of clauses that are learned between one review and the next.
@@ -28,12 +28,13 @@ const KEPT_LEVELS: u32 = 2;
 const KEPT_LENGTH: usize = 2;
 
 /// A learned clause that may be deleted. One candidate comes before another if it has fewer levels. If both have equally many
-/// levels, the shorter one comes first, and if they are also equally long, the newer one. The half that comes first is kept.
+/// levels, the shorter one comes first, and if they are also equally long, the newer one. The half that comes first is kept; of
+/// an odd number of candidates, one fewer is kept than is deleted.
 #[derive(Clone, Copy, PartialEq, Eq, PartialOrd, Ord)]
 struct Candidate {
     levels: u32,
     length: usize,
-    /// 1 for the newest learned clause, 2 for the one learned before it, and so on.
+    /// 1 for the clause that was noted last (see `note_learned`), 2 for the one noted before it, and so on.
     age: usize,
 }
 
@@ -47,7 +48,7 @@ pub(crate) struct Deletion {
     counted: Vec<u64>,
     /// The number of the last call of `count_levels`.
     counts: u64,
-    /// The next review is due when this many clauses have been learned.
+    /// The next review comes with the clause that is learned after this many.
     next: usize,
     /// How many clauses are learned between one review and the next.
     gap: usize,
@@ -174,7 +175,7 @@ impl Deletion {
     }
 
     /// For each clause number, whether the clause is to be deleted. The worse half of the clauses that may be deleted is
-    /// chosen.
+    /// chosen. If their number is odd, the middle one is chosen too.
     fn choose(
         &self,
         alloc: Global,

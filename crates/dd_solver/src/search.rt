@@ -172,7 +172,7 @@ impl<'a> Search<'a> {
         Ok(learned.backjump)
     }
 
-    /// Has the clause of the last step watch two of its literals.
+    /// Has the clause of the last step watch two of its literals, if it has at least two.
     fn watch_last(&mut self, alloc: Global) -> Result<(), AllocError>
         ensures { self.new ≡ self.old }
     {

@@ -1,4 +1,4 @@
-//! The defaults, and the sets of symbols that nodes allow at first.
+//! The defaults, the sets of symbols that nodes allow at first, and lists of numbers from 0 on.
 ghost use Rattle.std.specs.Prelude.{◌≡◌, ◌≤◌, length, IfOk, OnOk};
 ghost use Rattle.std.specs.List.{range_with_len};
 ghost use Rattle.dd_known.specs.Sound.{IsSound};

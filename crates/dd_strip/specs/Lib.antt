@@ -1,2 +1,2 @@
--- strips, and which of them a question about a rule may name
+-- strips, and which strips and weights a question about a rule may name
 pub mod Strips

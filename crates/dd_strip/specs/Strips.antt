@@ -1,4 +1,5 @@
--- Strips. A strip has periods along y and z, and no end along x. A slice consists of the strip's cells with one value of x.
+-- Strips, which strips and weights a question about a rule may name, and which strips are small enough for a rule. A strip has periods along y and z,
+-- and no end along x. A slice consists of the strip's cells with one value of x.
 use Rattle.std.specs.Prelude.{◌≡◌, ◌⊎◌, ℕ, ◌*◌, ◌<◌, ◌≤◌, List, length, slice_index}
 use Rattle.std.specs.List.{All}
 use Rattle.dd_values.specs.Bounds.{most_weight}
@@ -37,7 +38,7 @@ pub record IsFor (r : LocalRule) (s : Strip) : Type 0 where
 
 -- ---- which strips and weights a question about a rule may name
 
--- the list gives the periods along y and z; they are from 1 to 64, and the period along each axis beyond the rule's dimension is 1
+-- the first two numbers of the list are the periods along y and z; they are from 1 to 64, and 1 along each axis beyond the rule's dimension
 pub record IsStrip (r : LocalRule) (periods : List ℕ) : Type 0 where
   pub y_some : 0 < slice_index periods 0
   pub z_some : 0 < slice_index periods 1
@@ -55,8 +56,8 @@ pub record HasWeights (r : LocalRule) (weights : List ℕ) : Type 0 where
 abbrev pub strip_for : LocalRule → List ℕ → Strip
 strip_for r periods = strip_of (slice_index periods 0) (slice_index periods 1) r.nodes
 
--- The rule's transfer graph over the strip (see dd_transfer) has too many states or too many windows. A state is a filling of consecutive slices. A
--- window is like a state, but has one more slice.
+-- The rule's transfer graph over the strip (see dd_transfer) has too many states or too many windows. A state gives each cell of a number of
+-- consecutive slices a symbol of the alphabet, whether or not the cell's node allows it. A window is like a state, but has one more slice.
 abbrev pub IsTooLarge : LocalRule → Strip → Type 0
 IsTooLarge r s = (most_states < states r (positions s)) ⊎ (most_windows < window_count r (positions s))
 

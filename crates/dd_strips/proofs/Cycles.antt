@@ -1,6 +1,6 @@
--- A closed walk as a configuration. The configuration's period is the walk's length, and its slice at each x is the last slice of the walk's state
--- there. Each position is in the tested slice of some window, and the windows are those of the walk's edges. So the configuration lives: it obeys the
--- rule everywhere.
+-- A closed walk as a configuration. The configuration's period along the first axis is the walk's length, and its slice at each x is the last slice
+-- of the walk's state there. Each position is in the tested slice of some window, and the windows are those of the walk's edges. So the configuration
+-- lives: it obeys the rule everywhere. Its fundamental box weighs as much as the walk.
 use Rattle.std.proofs.Common.{◌≡◌, ℕ, zero, suc, ◌+◌, ◌*◌, ◌/◌, ◌%◌, ◌^◌, ◌<◌, ◌≤◌, Bool, true, false, List, [], ◌∷◌, length, map, get_or, ℤ, pos, ◌+ℤ◌, ◌≤ℤ◌, Option, None, refl, ap, sym, ◌∙◌, subst, arith}
 use Rattle.std.proofs.{Math.Nat.mod-eq_of_lt, Math.Nat.pow-suc, Math.Nat.one-le-pow, lemmas.Int.ints, lemmas.Bool.ltb-true}
 use Rattle.std.proofs.lemmas.Nat.{mul-add-lt, mod-mul-add, div-mul-add, div-add-mod', div_below, mod_below}
@@ -141,7 +141,7 @@ module _ (r : LocalRule) (s : Strip) (walk : List ℕ) (rule : IsRule r) (for : 
     one_further : (y : ℤ) (n : ℕ) → ((y +ℤ pos n) +ℤ pos 1) ≡ y +ℤ pos (suc n)
     one_further y n = omega (arith, ints)
 
-    -- the n slices after y are the last n slices of the walk's state at y + n
+    -- the n slices after y are the last n slices of the walk's state at y + n, if a state has as many slices
     slices_there : (y : ℤ) (n : ℕ) → n ≤ state_length r → slices_from r s (tile_look (tile_of r s walk)) (y +ℤ pos 1) n ≡ state_at r s walk (y +ℤ pos n) % slices r (positions s) ^ n
     slices_there y zero le = none_there (y +ℤ pos 1) ∙ sym (mod_of_none (state_at r s walk (y +ℤ pos 0)) (slices r (positions s)))
     slices_there y (suc n) le =

@@ -1,5 +1,5 @@
 -- Configurations with the strip's periods and no shear. In each of their slices all cells have symbols, and the slices repeat after the
--- configuration's period along the first axis. Let n be this period. Any n consecutive slices weigh as much as the fundamental box.
+-- configuration's period along the first axis. Let n be this period. From each x >= 0 on, n consecutive slices weigh as much as the fundamental box.
 use Rattle.std.proofs.Common.{◌≡◌, ℕ, zero, suc, ◌+◌, ◌*◌, ◌/◌, ◌%◌, ◌<◌, Bool, List, [], ◌∷◌, length, map, get_or, ℤ, pos, ◌+ℤ◌, Option, None, refl, ap, sym, ◌∙◌, arith}
 use Rattle.std.proofs.{Math.Nat.mod-eq_of_lt, Math.Nat.div-eq_of_lt, lemmas.Int.ints, lemmas.Bool.lt-ltb}
 use Rattle.std.proofs.lemmas.Nat.{mod-mul-add, div-mul-add, div-add-mod', mod_below, div_below}

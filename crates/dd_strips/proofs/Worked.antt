@@ -1,4 +1,4 @@
--- Worked examples: the definitions on small rules and looks.
+-- Worked examples: the definitions on small rules, looks, configurations and lists of potentials.
 use Rattle.std.proofs.Common.{◌≡◌, ◌+◌, ◌%◌, true, false, [], ◌∷◌, pos, negsuc, unsigned_abs, Some, refl, ap, arith}
 use Rattle.dd_lattice.specs.{Place.place, Cells.cell, declared.position.Cell.Cell}
 use Rattle.dd_pattern.specs.{Reading.Look, Tile.Tile, Tile.tile, Tile.tile_look}

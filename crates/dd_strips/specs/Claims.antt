@@ -12,7 +12,7 @@ abbrev pub IsHeavy : LocalRule → Strip → List ℕ → ℕ → ℕ → ℕ �
 IsHeavy r s ws m l spread =
     (j : ℕ) (x : ℤ) (look : Look) → IsAdmissibleStrip r s x (j + state_length r) look → m * j ≤ l * slices_weight s ws look (x +ℤ pos (state_length r)) j + spread
 
--- the least density of the strip is p / q, and admissible fillings of every length weigh as much as IsHeavy says
+-- the least density of the strip is p / q, and admissible fillings weigh at least what IsHeavy says
 pub record StripLeast (r : LocalRule) (s : Strip) (ws : List ℕ) (p q l m spread : ℕ) : Type 0 where
   pub density : IsLeastDensity r s ws p q
   pub heavy : IsHeavy r s ws m l spread

@@ -1,5 +1,5 @@
--- Fillings of the slices of a strip, and configurations that repeat with the strip's periods along the axes after the first. A look gives each cell a
--- symbol, or none.
+-- Fillings of the slices of a strip, configurations that repeat with the strip's periods along the axes after the first, and their least density. A
+-- look gives each cell a symbol, or none.
 use Rattle.std.specs.Prelude.{◌≡◌, ℕ, ◌*◌, ◌<◌, ◌≤◌, ◌&&◌, Bool, ℤ, pos, ◌+ℤ◌, int_le, int_lt, nat_lt, is_some, List}
 use Rattle.dd_lattice.specs.declared.position.Cell.{Cell}
 use Rattle.dd_pattern.specs.{Reading.Look, Periods.periods_volume, Tile.Tile, Tile.IsTile, Weight.total_weight}
@@ -24,7 +24,7 @@ pub record IsAdmissibleStrip (r : LocalRule) (s : Strip) (x : ℤ) (k : ℕ) (lo
   pub filling : IsStripFilling r s x k look
   pub admissible : Admissible r look
 
--- the weight of the n slices from x on
+-- the weight of the n slices from x on; a cell without a symbol counts as one with the symbol 0
 abbrev pub slices_weight : Strip → List ℕ → Look → ℤ → ℕ → ℕ
 slices_weight s ws look x n = total_weight ws (symbols_from s look x n)
 

@@ -34,8 +34,8 @@ pub fn strip_empty()
     slices_are_walks();
 }
 
-/// Does nothing. Its contract says that a strip has at most one least density: two fractions in lowest terms that are both its
-/// least density are the same.
+/// Does nothing. Its contract says that a rule has at most one least density on a strip, with given weights: two fractions in
+/// lowest terms that are both this density are the same.
 pub fn one_density()
     ensures { (r : LocalRule) (s : Strip) (ws : List ℕ) (p q a b : ℕ) → IsLeastDensity r s ws p q → IsLeastDensity r s ws a b →
         IsGcd p q 1 → IsGcd a b 1 → (p ≡ a) × (q ≡ b) }

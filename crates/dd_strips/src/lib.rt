@@ -1,8 +1,8 @@
 //! Laws of strips: what a certificate says about fillings of any number of a strip's slices, and about the configurations that
-//! live on the strip. A strip has periods along y and z, and no end along x. A slice consists of its cells with one value of x.
-//! A configuration lives on the strip if it has the strip's periods along y and z, any period along x, no shear and only
-//! allowed symbols, and obeys the rule everywhere. (With a shear, it would be shifted along x from one period along y to the
-//! next.)
+//! live on the strip. One more law says that there is at most one least density. A strip has periods along y and z, and no end
+//! along x. A slice consists of its cells with one value of x. A configuration lives on the strip if it has the strip's periods
+//! along y and z, any period along x, no shear and only allowed symbols, and obeys the rule everywhere. (With a shear, it would
+//! be shifted along x from one period along y to the next.)
 //!
 //! `dd_transfer` defines the transfer graph, with its states, edges, windows and tested slices. A state consists of consecutive
 //! slices. An edge drops a state's first slice and adds a slice after the last one. The edge weighs what the added slice

@@ -30,7 +30,7 @@ impl Topology {
     /// then y, then x, then the node. A path may follow an edge in either direction.
     ///
     /// # Errors
-    /// `Range` if a coordinate of one of these cells exceeds 2^20 in absolute value. `Memory` if memory ran out.
+    /// `Range` if a coordinate of one of these cells exceeds 2^20 in absolute value. `Memory` if memory ran out first.
     pub fn ball(&self, alloc: Global, centre: &Cell, radius: u32) -> Result<Vec<Cell>, LatticeFault>
         ensures cells { IfOk result (λ v. IsCellListOf (IsInBall self.now.edges centre.now radius) v.items) }
         ensures list { IfOk result (λ v. v.items ≡ in_order (ball self.now.edges centre.now radius)) }

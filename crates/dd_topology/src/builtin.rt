@@ -177,8 +177,8 @@ fn back(label: u32, x: i32, y: i32, z: i32) -> Edge
     }
 }
 
-/// The topology with these labels and edges. No label may occur twice, and no two edges may have the same label and first
-/// node.
+/// The topology with these labels and edges. No label may occur twice, and no two edges may have the same label and first node.
+/// There must be fewer than 2^32 - 1 labels, and the rest must be as `from_edges` needs it.
 fn topology_of(
     alloc: Global,
     dim: u32,
@@ -203,7 +203,8 @@ fn topology_of(
     }
 }
 
-/// The list of the names that these texts spell, in the same order. No text may occur twice.
+/// The list of the names that these texts spell, in the same order. There must be fewer than 2^32 - 1 texts, and none may occur
+/// twice.
 fn names_of(alloc: Global, texts: &[&str]) -> Result<Names, AllocError>
     requires few { length texts.now < 2 ^ 32 - 1 }
     requires distinct { has_repeat bytes_eq (map (λ text. text.now) texts.now) ≡ false }
@@ -216,7 +217,7 @@ fn names_of(alloc: Global, texts: &[&str]) -> Result<Names, AllocError>
     Ok(names)
 }
 
-/// Adds a name that the list doesn't have yet.
+/// Adds a name that the list doesn't have yet. Before the call, the list must have fewer than 2^32 - 1 names.
 fn add_name(alloc: Global, names: &mut Names, text: &str) -> Result<(), AllocError>
     requires few { length names.old < 2 ^ 32 - 1 }
     requires new { ¬ Contains names.old text.now }

@@ -54,8 +54,8 @@ impl Model for Topology {
     ghost invariant = { λ t. IsGrid (grid t.dim t.nodes t.labels t.edges) × (t.moves.keys ≡ map move_of t.edges) };
 }
 
-/// The moves that the edges make, in the same order. The fault is `Twice` if two edges make the same move: it holds the
-/// label of the first edge that makes the same move as an earlier one. The fault is `Memory` if memory ran out.
+/// The moves that the edges make, in the same order. The fault is `Twice` if two edges make the same move: it holds the label
+/// of the first edge that makes the same move as an earlier one. The fault is `Memory` if memory ran out first.
 fn moves_of(alloc: Global, edges: &[Edge]) -> Result<IndexSet<Move>, TopologyFault>
     ensures moves { IfOk result (λ moves. moves.keys ≡ map move_of edges.now) }
     ensures single { OnOk result (AreSingle edges.now) }
@@ -82,8 +82,8 @@ impl Topology {
     /// must lead at most 4 along each of the first `dim` axes, and not at all along the others.
     ///
     /// # Errors
-    /// `Twice` if two edges have the same label and the same first node: it holds the label of the first edge that agrees
-    /// in both with an earlier edge. `Memory` if memory ran out.
+    /// `Twice` if two edges have the same label and the same first node: it holds the label of the first edge that agrees in
+    /// both with an earlier edge. `Memory` if memory ran out first.
     pub fn from_edges(
         alloc: Global,
         dim: u32,

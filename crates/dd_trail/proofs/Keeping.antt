@@ -1,4 +1,5 @@
--- The copy without the places of the clauses that are not alive. They are removed in place: each place that stays moves down.
+-- The copy without the places of the clauses that are not alive. They are removed in place: what stays at a place moves down by the number of places
+-- removed before it.
 use Rattle.std.proofs.Common.{◌≡◌, ◌≢◌, ℕ, ◌+◌, ◌<◌, ◌≤◌, Bool, true, false, List, Option, refl, ap, sym, ◌∙◌, length, get_or, set, take, inl, inr, arith, get_or-set_same, get_or-set_other}
 use Rattle.std.proofs.Math.ListN.{get_or-eq_default}
 use Rattle.std.proofs.lemmas.Bool.{cases_eq, cases_lt, false≢true}
@@ -16,7 +17,8 @@ pub record At (numbers : List ℕ) (codes : List Code) (most number : ℕ) (entr
   pub numbered : number_at numbers place ≡ number
   pub coded : get_or codes place end_mark ≡ entry
 
--- the places below `place` were gone through, and the first `kept` hold those that stay
+-- The places below `place` were gone through, and the first `kept` hold what stays, with numbers that never fall. The places from `place` on are
+-- unchanged.
 pub record Keeps (alive : List Bool) (ns : List ℕ) (cs : List Code) (kept place : ℕ) (numbers : List ℕ) (codes : List Code) : Type 0 where
   pub as_many : length numbers ≡ length ns
   pub as_many_codes : length codes ≡ length cs
@@ -59,7 +61,7 @@ module _ (alive : List Bool) (ns : List ℕ) (cs : List Code) (as_many : length 
     rise = k.rise;
   }
 
-  -- a place is passed, and moves down
+  -- a place is passed, and what it holds is put at the place `kept`
   pub keeps_more : (rises : (j k : ℕ) → j ≤ k → k < length ns → number_at ns j ≤ number_at ns k) (kept place : ℕ) (numbers : List ℕ) (codes : List Code) (entry : Code) → Keeps alive ns cs kept place numbers codes → place < length ns → is_kept alive (number_at ns place) ≡ true → entry ≡ get_or cs place end_mark
       → Keeps alive ns cs (kept + 1) (place + 1) (set numbers kept (number_at ns place)) (set codes kept entry)
   keeps_more rises kept place numbers codes entry k lt stays is =

@@ -1,5 +1,5 @@
--- A trail whose variables are distinct and in range has no more entries than there are variables. If it has as many, each
--- variable has a value.
+-- A trail whose variables are distinct and in range has no more entries than there are variables. It has as many exactly when each variable has a
+-- value.
 use Rattle.std.proofs.Common.{◌≡◌, ◌≢◌, ℕ, zero, suc, ◌+◌, ◌-◌, ◌<◌, ◌≤◌, Bool, true, false, not, ◌||◌, List, [], ◌∷◌, ◌++◌, Option, Some, None, refl, ap, sym, ◌∙◌, subst, length, get_or, set, take, inl, inr, arith, eqb, add-one, get_or-set_same, get_or-set_other}
 use Rattle.std.proofs.lemmas.Bool.{cases_eq, eq-eqb, eqb-true, ne_eqb, false≢true, and_left}
 use Rattle.std.proofs.lemmas.List.{length-set, length-append, take-append-le, get_or_append_left, take_all, take_more, map-append}

@@ -5,7 +5,7 @@ use Rattle.dd_derivation.specs.Derivations.{is_among, clause_of}
 use Rattle.dd_trail.specs.declared.copies.Code.{Code}
 use Rattle.dd_trail.specs.keeping.Values.{code}
 
--- For each place of the copy, the number of the clause that stands there, and the code of a literal of this clause. Other places hold end marks.
+-- For each place of the copy, the number of the clause that stands there, and the code of a literal of this clause or an end mark.
 pub record Copy : Type 0 where
   pub numbers : List ℕ
   pub codes : List Code
@@ -41,7 +41,8 @@ pub record HoldsClause (copy : Copy) (r : ℕ) (clause : List Literal) : Type 0 
   pub each : (l : Literal) → is_among clause l ≡ true → IsCopied copy r l
   pub only : (p : ℕ) → p < length copy.codes → number_at copy.numbers p ≡ r → code_at copy.codes p ≢ 0 → IsOf clause (code_at copy.codes p)
 
--- Each number in the copy is one that a clause has or had. If a known clause has places in the copy, they hold its literals.
+-- No number in the copy is greater than the number of the last clause, known or deleted. If a known clause has places in the copy, they hold its
+-- literals.
 pub record AreCopied (known : List (Option (List Literal))) (copy : Copy) : Type 0 where
   pub numbered : (p : ℕ) → number_at copy.numbers p ≤ length known
   pub clauses : (p : ℕ) (clause : List Literal) → p < length copy.codes → clause_of known (number_at copy.numbers p) ≡ Some clause

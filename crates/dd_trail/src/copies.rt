@@ -1,7 +1,7 @@
-//! A copy of the literals of all clauses, one clause after the other. Propagation reads this copy and not the clauses
-//! themselves: the copy lies in one piece in memory, and the literals of a clause can change places in it. Each place of the
-//! copy holds a literal or an end mark, and the number of a clause. The places of a clause stand side by side. The last of them
-//! holds an end mark, and the others hold its literals.
+//! A copy of the literals of all clauses, one clause after the other. While propagation passes watchers (see `watches`), it
+//! reads this copy and not the clauses themselves: the copy lies in one piece in memory, and the literals of a clause can
+//! change places in it. Each place of the copy holds a literal or an end mark, and the number of a clause. The places of a
+//! clause stand side by side. The last of them holds an end mark, and the others hold its literals.
 ghost use Rattle.std.specs.Prelude.{◌≡◌, ◌≢◌, ℕ, ◌+◌, ◌<◌, ◌≤◌, ◌++◌, ◌∷◌, [], true, false, List, Option, All, length, map, replicate, slice_index_or, IfOk, OnOk, OnErr, MatchOption, IfSome, ⊤};
 ghost use Rattle.dd_clause.specs.declared.clause.Literal.{Literal};
 ghost use Rattle.dd_trail.specs.Trails.{falses};
@@ -130,8 +130,8 @@ fn is_next(numbers: &[u32], number: u32) -> bool
     }
 }
 
-/// Copies the clause with this number, if there is one. Its number must be greater than all in the copy. If it isn't, or a
-/// literal has no code, or memory runs out, nothing changes.
+/// Copies the clause with this number, if there is one. Its number must be greater than all in the copy. If it isn't, or
+/// doesn't fit in 32 bits, or a literal has no code, or memory runs out, nothing changes.
 pub(crate) fn copy_clause(
     alloc: Global,
     numbers: &mut Vec<u32>,
@@ -185,7 +185,8 @@ pub(crate) fn keep_alive(numbers: &mut Vec<u32>, codes: &mut Vec<Code>, alive: &
     codes.truncate(kept);
 }
 
-/// The number of the clause that has all places from `first` to `end`, and no others. `None` if there is no such clause.
+/// The number of the clause that has all places from `first` to `end`, and no others. `None` if there is no such clause, or if
+/// `first` is not less than `end`.
 fn number_between(numbers: &[u32], first: usize, end: usize) -> Option<u32>
     requires { (j k : ℕ) → j ≤ k → k < length numbers.now → number_at numbers.now j ≤ number_at numbers.now k }
     ensures { MatchOption result ⊤ (AreOnly numbers.now first end) }
@@ -202,7 +203,7 @@ fn number_between(numbers: &[u32], first: usize, end: usize) -> Option<u32>
     None
 }
 
-/// What the clause with this number says if its literals are all false, except perhaps the one with this code.
+/// What the clause with this number says if its literals are all false, except the one with this code, which is not false.
 fn forced(trail: &Trail, number: u64, code: Code) -> Scan
     ensures { SaysForced trail.now.variables trail.now.entries number code.index result }
 {
@@ -213,7 +214,8 @@ fn forced(trail: &Trail, number: u64, code: Code) -> Scan
     Scan::Nothing
 }
 
-/// Looks at the clause at a stop. It is falsified or forces a literal, unless the other literal that it watches is true.
+/// Looks at the clause at a stop. Finds nothing if the stop is not at a known clause, if one of the clause's first two literals
+/// is true, or if neither of them has a value. Otherwise the clause is falsified or forces a literal.
 pub(crate) fn look_at_stop(
     numbers: &[u32],
     codes: &[Code],

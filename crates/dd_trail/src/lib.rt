@@ -4,9 +4,9 @@
 //! At a conflict, the search learns a clause: it resolves the conflict with clauses that forced literals. Then it goes back,
 //! that is, it removes the newest entries from the trail. Learned clauses may be deleted. A clause is alive, or known, until it
 //! is deleted. Each clause with at least two literals watches two of them. With these watches, propagation finds forced
-//! literals and makes them true, until it finds a conflict, or finds no more forced literals. If there is no conflict, the
-//! search decides a variable, that is, it chooses a value for the variable; this is a decision. An order says which variable is
-//! decided next.
+//! literals and makes them true, until it finds a conflict, or finds no more forced literals. If there is no conflict and some
+//! variable has no value, the search decides such a variable, that is, it chooses a value for it; this is a decision. An order
+//! says which variable is decided next.
 #![tactic(auto)]
 
 mod copies;

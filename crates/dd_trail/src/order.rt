@@ -1,10 +1,10 @@
-//! The order in which variables are decided, the most active first. A variable's activity is a number. It rises when the
-//! variable takes part in a conflict, that is, when the conflict or a clause resolved with it contains the variable. Later
-//! conflicts count for more (Moskewicz, Madigan, Zhao, Zhang and Malik 2001; Eén and Sörensson 2003). A variable that is
-//! decided gets the value that it had last (Pipatsrisawat and Darwiche 2007). The variables stand in a binary heap. A variable
-//! that is taken from the heap is decided only if the trail says that it has no value. So no contract depends on the order: a
-//! bad one only costs time. No invariant says that the places kept here are within their lists. So the code tests these places.
-//! The tests never fail.
+//! The order in which variables are decided, the most active first. A variable's activity is a number. The search raises it
+//! (see `bump`), above all when the variable takes part in a conflict, that is, when the conflict or a clause resolved with it
+//! contains the variable. Later conflicts count for more (Moskewicz, Madigan, Zhao, Zhang and Malik 2001; Eén and Sörensson
+//! 2003). A variable that is decided gets the value that it had last (Pipatsrisawat and Darwiche 2007). The variables stand in
+//! a binary heap. A variable that is taken from the heap is decided only if the trail says that it has no value. So no contract
+//! depends on the order: a bad one only costs time. No invariant says that the places kept here are within their lists. So the
+//! code tests these places. The tests never fail.
 ghost use Rattle.std.specs.Prelude.{◌≡◌, ◌<◌, ◌^◌, MatchOption, ⊤};
 ghost use Rattle.dd_trail.specs.Trails.{IsFree, IsFull};
 
@@ -32,8 +32,9 @@ const FOCUSED_PART: u64 = 20;
 pub enum Style {
     /// A conflict counts for a long time, as each adds only a little more than the one before. The variables of the learned
     /// clause become more active a second time. If a clause forced the value of such a variable, the variables of that clause
-    /// become more active too (Liang, Ganesh, Poupart and Czarnecki 2016). This style is better where a contradiction lies deep
-    /// among many variables, as in pigeonhole problems and in most questions about the symbols of the cells in a box.
+    /// that are not fixed (see `Trail::is_fixed`) become more active too (Liang, Ganesh, Poupart and Czarnecki 2016). This
+    /// style is better where a contradiction lies deep among many variables, as in pigeonhole problems and in most questions
+    /// about the symbols of the cells in a box.
     Broad,
     /// The latest conflicts count most, as each adds clearly more than the one before. In a conflict, a variable becomes more
     /// active only once, however many of the resolved clauses contain it, as in MiniSat (Eén and Sörensson 2003). This style is
@@ -130,8 +131,8 @@ impl Order {
         }
     }
 
-    /// Whether a variable comes before another one, which has the given activity: it is more active, or it is equally active and
-    /// has the lower number.
+    /// Whether a variable comes before another one, which has the given activity: it is more active, or it is equally active
+    /// and has the lower number.
     fn is_before(&self, variable: usize, other: usize, activity: u64) -> bool {
         let own = self.activity(variable);
         own > activity || (own == activity && variable < other)
@@ -153,7 +154,8 @@ impl Order {
         self.put(variable, place);
     }
 
-    /// The child of this place in the heap. If there are two, it is the one whose variable comes first. `None` if there is none.
+    /// The child of this place in the heap. If there are two, it is the one whose variable comes first. `None` if there is
+    /// none.
     fn find_below(&self, place: usize) -> Option<usize>
         ensures { MatchOption result ⊤ (λ below. (place < below) × (below < self.now.waiting)) }
     {
@@ -244,8 +246,8 @@ impl Order {
         }
     }
 
-    /// Puts back the variables of the entries from this place on, and notes their values. The caller then cuts the trail at this
-    /// place.
+    /// Puts back the variables of the entries from this place on, and notes their values. The caller then cuts the trail at
+    /// this place.
     pub fn put_back_from(&mut self, trail: &Trail, place: usize) {
         let entries = trail.entries();
         for i in place..entries.len() {
@@ -264,7 +266,7 @@ impl Order {
         self.arrange();
     }
 
-    /// Makes a variable more active, because it took part in a conflict.
+    /// Makes a variable more active: its activity rises by the increment.
     pub fn bump(&mut self, variable: u32) {
         let variable = variable as usize;
         if variable >= self.ranks.len() {

@@ -37,8 +37,8 @@ fn look_at(database: &Database, trail: &Trail, number: u64) -> Scan
     }
 }
 
-/// Looks at the clause with this number. If it forces a literal, makes the literal true. If it is falsified, returns its number,
-/// and otherwise `None`.
+/// Looks at the clause with this number. If it forces a literal, makes the literal true. If it is falsified, returns its
+/// number, and otherwise `None`.
 pub(crate) fn follow(
     database: &Database,
     trail: &mut Trail,

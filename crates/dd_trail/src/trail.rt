@@ -42,7 +42,8 @@ pub struct Trail {
     entries: Vec<Entry>,
     /// For each literal, at the index of its code (see `code_of`), whether it is false.
     denied: Vec<bool>,
-    /// For each variable, at the index of its number, the spot of its entry. The spot is out of date if the variable has no value.
+    /// For each variable, at the index of its number, the spot of its entry. The spot is out of date if the variable has no
+    /// value.
     spots: Vec<Spot>,
     /// The places of the decisions on the trail, in ascending order.
     decision_places: Vec<usize>,
@@ -94,7 +95,7 @@ fn count_below(places: &[usize], place: usize) -> usize {
 }
 
 impl Trail {
-    /// A trail without entries, over this many variables.
+    /// A trail without entries, over this many variables, which must be fewer than 2^32.
     pub fn new(alloc: Global, variables: usize) -> Result<Trail, AllocError>
         requires { variables < 2 ^ 32 }
         ensures variables { IfOk result (λ trail. trail.variables ≡ variables) }
@@ -206,7 +207,8 @@ impl Trail {
         None
     }
 
-    /// The decision level of the variable's value: the number of decisions on the trail up to and including the variable's entry.
+    /// The decision level of the variable's value: the number of decisions on the trail up to and including the variable's
+    /// entry.
     pub fn level(&self, variable: u32) -> usize {
         let variable = variable as usize;
         if variable < self.spots.len() {

@@ -2,9 +2,9 @@
 //! them, and need not be looked at while neither of these two is false. So when a literal becomes false, only the clauses that
 //! watch it are looked at. When the search goes back, no watch has to be undone. No contract depends on which literals a clause
 //! watches: a clause that is missed only costs time. What matters is that the copy of the clauses (see `copies`) has all their
-//! literals: then a clause whose places hold only false literals is falsified, and one with a single place that does not hold a
-//! false literal forces a literal, or has a true one. No invariant says that the places that watchers name are within the copy,
-//! or are those of one clause. So the code tests both. The tests never fail.
+//! literals. So a clause is falsified if all of its literals in the copy are false. If all but one of them are false, the
+//! clause forces this one, or this one is true. No invariant says that the places that watchers name are within the copy, or
+//! are those of one clause. So the code tests both. The tests never fail.
 //!
 //! Each literal has a list of watchers. A watcher names a clause that watches the literal, and another literal of this clause.
 //! An entry of the trail makes the negation of its literal false. To read the entry is to pass the watchers of this negation,
@@ -36,7 +36,7 @@ struct Watcher {
     other: Code,
 }
 
-/// The watchers of each literal, and how far the trail has been read.
+/// The watchers of each literal, the copy of the clauses, and how far the trail has been read.
 #[derive(Drop)]
 pub struct Watches {
     /// For each literal, the clauses that watch it.
@@ -186,7 +186,7 @@ impl Model for Watches {
 }
 
 impl Watches {
-    /// The watches for this many variables, without any clauses.
+    /// The watches for this many variables, which must be fewer than 2^32, without any clauses.
     pub fn new(alloc: Global, variables: usize) -> Result<Watches, AllocError>
         requires { variables < 2 ^ 32 }
         ensures copied { IfOk result (λ watches. (known : List (Option (List Literal))) → AreCopied known watches) }
@@ -208,7 +208,7 @@ impl Watches {
     }
 
     /// Adds the clause with this number, if the database has one. It watches its first two literals, if it has at least two.
-    /// Clauses have to be added in the order of their numbers.
+    /// Clauses have to be added in the order of their numbers: one whose number is not greater than all before it is not added.
     pub fn add(&mut self, alloc: Global, database: &Database, number: u64) -> Result<(), AllocError>
         ensures copied { AreCopied database.now self.old → AreCopied database.now self.new }
     {
@@ -277,8 +277,9 @@ impl Watches {
         }
     }
 
-    /// Notes that the trail is cut to this length, and drops the deleted clauses. The clause with number k is alive exactly
-    /// when `alive[k - 1]` is true. `alive` must have a value for each clause that was added.
+    /// Notes that the trail is cut to this length. If clauses were noted as deleted since the last call (see `note_deleted`),
+    /// drops all clauses that are not alive. The clause with number k is alive exactly when `alive[k - 1]` is true. `alive`
+    /// must have a value for each clause that was added.
     pub fn cut(&mut self, length: usize, alive: &[bool]) -> Result<(), AllocError>
         ensures { (known : List (Option (List Literal))) → AreCopied known self.old → AreCopied known self.new }
     {
@@ -337,7 +338,8 @@ impl Watches {
         ensures copied { AreCopied database.now self.new }
         ensures conflict { IfOk result (λ conflict. MatchOption conflict ⊤ (IsConflict database.now trail.new.entries)) }
     {
-        // The loop ends long before its bound. A `loop` would need a proof that it ends, and nothing is proved about the places.
+        // The loop ends long before its bound. A `loop` would need a proof that it ends, and nothing is proved about the
+        // places.
         for _ in 0..u64::MAX {
             let read = self.read;
             let entries = trail.entries();

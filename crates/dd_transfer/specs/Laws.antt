@@ -1,4 +1,4 @@
--- The laws of slices: how the slices of a look relate to the transfer graph.
+-- The laws of slices: how the slices of a look relate to the transfer graph, and how numbers and their digits relate.
 use Rattle.std.specs.Prelude.{◌≡◌, ◌↔◌, ℕ, ◌+◌, ◌*◌, ◌<◌, ◌^◌, true, ℤ, pos, ◌+ℤ◌, List, ◌++◌, length, is_some, ◌&&◌}
 use Rattle.std.specs.List.{All, list_all}
 use Rattle.dd_lattice.specs.{Place.Place, Cells.cell, Cells.shifted}

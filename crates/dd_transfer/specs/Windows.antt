@@ -1,4 +1,5 @@
--- Windows of a strip: the slices at x = 0, 1 and so on. The other coordinates are read modulo the strip's periods.
+-- Windows of a strip: the slices at x = 0, 1 and so on. The other coordinates are read modulo the strip's periods. Windows are numbered: the digits of
+-- a window's number are its symbols. A rule keeps some of the windows.
 use Rattle.std.specs.Prelude.{◌≡◌, ℕ, zero, suc, ◌+◌, ◌*◌, ◌/◌, ◌%◌, ◌<◌, ◌≤◌, ◌&&◌, cond, nat_lt, int_le, true, List, [], ◌∷◌, ◌++◌, Option, None, slice_get, slice_index_or, length, false, Bool, ◌↔◌, pos, ℤ, ◌-ℤ◌, unsigned_abs}
 use Rattle.std.specs.List.{All}
 use Rattle.dd_lattice.specs.{Place.Place, Place.place, Cells.cell, declared.position.Cell.Cell}
@@ -17,7 +18,7 @@ digits base (suc count) number = digits base count (number / base) ++ number % b
 abbrev pub slice_index_of : Strip → Cell → ℕ
 slice_index_of s c = (residue c.position.z s.z * s.y + residue c.position.y s.y) * s.nodes + c.node
 
--- the place of a cell among the symbols of a window, which are listed slice by slice
+-- the place of a cell among the symbols of a window, which are listed slice by slice, if the cell's x is at least 0
 abbrev pub window_index : Strip → Cell → ℕ
 window_index s c = unsigned_abs c.position.x * cells s + slice_index_of s c
 

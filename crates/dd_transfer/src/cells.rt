@@ -23,7 +23,7 @@ fn slice_place(strip: &Strip, y: i32, z: i32, node: u32) -> u32
     entry(row, strip.nodes, node)
 }
 
-/// The place of a cell among the symbols of a window.
+/// The place of a cell among the symbols of a window. The cell's x must be at least 0.
 fn window_place(strip: &Strip, x: i32, y: i32, z: i32, node: u32) -> u64
     requires sized { IsSized strip.now }
     requires node { node < strip.now.nodes }

@@ -1,4 +1,5 @@
-//! Windows: the symbols of consecutive slices of a strip. The coordinates y and z are read modulo the strip's periods.
+//! Windows: the symbols of consecutive slices of a strip. The coordinates y and z are read modulo the strip's periods. Windows
+//! are numbered: the digits of a window's number are its symbols.
 ghost use Rattle.std.specs.Prelude.{◌≡◌, ℕ, ◌<◌, ◌+◌, length};
 ghost use Rattle.dd_strip.specs.Strips.{IsSized};
 ghost use Rattle.dd_transfer.specs.Windows.{shown, digits};

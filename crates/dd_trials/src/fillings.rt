@@ -1,4 +1,4 @@
-// All fillings of a few cells, each with a number.
+// All fillings of a few cells, each with a number, and the truth of a rule under a filling.
 ghost use Rattle.std.specs.Prelude.{◌≡◌, ◌<◌, ◌≤◌, length, IfOk};
 ghost use Rattle.std.specs.List.{All};
 
@@ -56,7 +56,8 @@ pub(crate) fn at_origin(node: u32) -> Cell
     }
 }
 
-/// Whether the rule is true at a cell; `None` if the filling lacks a cell that the rule reads there.
+/// Whether the rule is true at a cell; `None` if the filling lacks a cell that the rule reads there. Fails if the rule doesn't
+/// have the cell's node.
 #[tactic(auto, using(dd_formula::specs::lemmas::Reached::filling_below))]
 pub(crate) fn truth(rule: &Rule, filling: &Filling, at: &Cell) -> Result<Option<bool>, Fail>
     requires { All (λ s. s < rule.now.symbols) filling.now.symbols }

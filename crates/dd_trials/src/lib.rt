@@ -1,9 +1,10 @@
-//! Tests that need several crates at once. A script is parsed. Then the truth of its rules, the values of its automata, and the
-//! circuits and clauses made from them are compared with each other or with results worked out by hand.
+//! Tests that need several crates at once. All but the one in `inputs` parse scripts. The truth of the rules, the values of the
+//! automata, the images of configurations, the lists of minimal patterns, the circuits, the clauses and bounds on their numbers
+//! are compared with each other or with results worked out by hand.
 //!
 //! A filling gives a symbol to each cell of a list. A rule reads the cells whose symbols its formula looks at. A box question
 //! has a premise, which is a rule, and a goal. It asks whether no configuration that obeys the premise has the goal. There are
-//! three kinds of goal: that another rule is false at some node of the origin, that two automata differ at some node of the
+//! three kinds of goal: that a given rule is false at some node of the origin, that two automata differ at some node of the
 //! origin, and `Always`, which holds in every configuration. A filling of a box is admissible if the premise is true at each
 //! cell of the box for which the box holds all that the premise reads there.
 //!

@@ -42,9 +42,9 @@ fn inputs_of(alloc: Global, cells: &[Cell], symbols: u32) -> Result<Inputs, Allo
     Ok(inputs)
 }
 
-/// Compiles the rule to a template: the rule's gates at a node, to be placed at that node of any position. Then places the
-/// template at the node of the origin, in a new circuit with this many input variables. Returns the circuit and the signal of
-/// the rule.
+/// Compiles the rule to a template: the rule's gates at a node, to be placed at that node of one position after another. Then
+/// places the template at the node of the origin, in a new circuit with this many input variables. Returns the circuit and the
+/// signal of the rule. Fails if a cell that the rule reads lacks an input of this circuit for some symbol.
 fn placed(
     alloc: Global,
     rule: &Rule,
@@ -122,8 +122,8 @@ fn value_of(
     Ok(value.ok_or("a variable of the circuit")? == signal.positive)
 }
 
-/// For each filling of the cells that the rule reads at a node of the origin: the truth of the rule there, and the value of its
-/// signal.
+/// For each filling of the cells that the rule reads at a node of the origin, or for 1001 of them if there are more than 1000:
+/// the truth of the rule there, and the value of its signal.
 fn truths(alloc: Global, rule: &Rule, node: u32) -> Result<Vec<(Option<bool>, bool)>, Fail>
     requires { node < rule.now.nodes }
 {

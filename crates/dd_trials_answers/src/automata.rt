@@ -125,8 +125,8 @@ fn commuting(alloc: Global, first: u32) -> Result<String, AllocError> {
     Ok(text)
 }
 
-// The answers if all sixteen automata commute with the shift. The radius 2 is the least whose box holds all that the
-// compositions read.
+// The first lines of the answers if all sixteen automata commute with the shift. The radius 2 is the least whose box holds all
+// that the compositions read.
 fn sixteen_yes(alloc: Global) -> Result<String, AllocError> {
     let mut lines = String::new(alloc);
     for number in 1..17u32 {

@@ -1,10 +1,10 @@
 // Bounds by discharging: known values, and whether a check accepts the answers of runs and other answers. A query names a rule,
 // a radius, a margin and vectors. At first each position holds its weight, the sum of the weights of its symbols. Then it gives
-// an amount along each vector. The amount depends on the symbols of the box of this radius around the giver. The region
-// consists of the boxes of this radius around the origin and around the positions that give to it, all grown by the margin. The
-// bound is the greatest number c for which some amounts leave at least c at the origin, in each admissible filling of the
-// region. A filling is admissible if the rule is true at each cell of the region for which the region holds all that the rule
-// reads there.
+// an amount along each vector. The amount depends on the vector and on the symbols of the box of this radius around the giver.
+// The region consists of the boxes of this radius around the origin and around the positions that give to it, all grown by the
+// margin. The bound is the greatest number c for which some amounts leave at least c at the origin, in each admissible filling
+// of the region; c must not exceed the number of nodes times the greatest weight. A filling is admissible if the rule is true
+// at each cell of the region for which the region holds all that the rule reads there.
 use crate::outputs::{assert_answers, assert_checks, assert_lines};
 use std::test::Fail;
 

@@ -21,7 +21,8 @@ fn clause_of(alloc: Global, numbers: &[i32]) -> Result<Clause, AllocError> {
     Clause::from_literals(alloc, literals.as_slice())
 }
 
-/// The clauses over three variables that the numbers give. Empty clauses, and clauses with a variable out of range, are left out.
+/// The clauses over three variables that the numbers give. Empty clauses, and clauses with a variable out of range, are left
+/// out.
 fn cnf_of(alloc: Global, numbers: &[i32]) -> Result<Cnf, AllocError> {
     let mut cnf = Cnf::new(alloc, 3);
     for clause in numbers.split(|number| *number == 0) {
@@ -64,8 +65,8 @@ fn steps_of(alloc: Global, numbers: &[i32]) -> Result<Vec<Step>, AllocError> {
     Ok(steps)
 }
 
-// The variable 3 is the conjunction of the variables 1 and 2. One of these two must be true, and the other false. The variable 3
-// must be true.
+// The variable 3 is the conjunction of the variables 1 and 2. One of these two must be true, and the other false. The variable
+// 3 must be true.
 const GATE_IS_TRUE: &[i32] = &[1, 2, 0, -1, -2, 0, -3, 1, 0, -3, 2, 0, 3, -1, -2, 0, 3, 0];
 
 /// The results of two checks that use the same memory, `marks`. Between them, the last step is checked by itself.
@@ -104,8 +105,8 @@ const HINTS_OF_ONE_STEP: &[(&[i32], bool)] = &[
     (&[0, 0, 0], false),
     (&[0, 6, 4, 2, 0, 0], false),
     (&[0, 6, 3, 4, 2, 5, 0, 0], false),
-    // hints to a clause with a literal that is already true, to one with two literals that are not false, and to one that doesn't
-    // exist
+    // hints to a clause with a literal that is already true, to one with two literals that are not false, and to one that
+    // doesn't exist
     (&[0, 6, 3, 3, 4, 2, 0, 0], false),
     (&[0, 1, 6, 3, 4, 2, 0, 0], false),
     (&[0, 7, 6, 3, 4, 2, 0, 0], false),
@@ -167,8 +168,8 @@ fn a_literal_that_stands_twice_in_a_clause_counts_once(rt: HostRuntime) -> Resul
     Ok(())
 }
 
-/// Steps with the clauses (9) and (-9 1), each with the list's first clause as its hint, and then a step with the clause (1) and
-/// hints to both. The list has no variable 9.
+/// Steps with the clauses (9) and (-9 1), each with the list's first clause as its hint, and then a step with the clause (1)
+/// and hints to both. The list has no variable 9.
 const OUT_OF_RANGE: &[i32] = &[9, 0, 1, 0, 0, -9, 1, 0, 1, 0, 0, 1, 0, 7, 8, 0, 0];
 
 /// Steps, the index of the one step that is checked, and whether this step is correct, given the steps before it.

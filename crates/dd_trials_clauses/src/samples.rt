@@ -1,4 +1,4 @@
-// An answer of each kind, with its first line and the lines that follow, written by hand. Only the texts are tested, so the
+// Answers of every kind, each with its first line and the lines that follow, written by hand. Only the texts are tested, so the
 // answers need not be right.
 use dd_certificate::{Answer, Listed, Reason, Side, Starred};
 use dd_clause::{Clause, Literal};
@@ -29,7 +29,7 @@ fn steps(
     Ok(steps)
 }
 
-/// A refutation of one step, whose clause is empty.
+/// A YES with the radius 0 and a refutation of one step, whose clause is empty.
 fn yes(alloc: Global) -> Result<Answer, AllocError> {
     Ok(Answer::Yes {
         radius: 0,
@@ -112,7 +112,7 @@ fn starred(alloc: Global, node: u64, symbols: &[Option<u64>]) -> Result<Starred,
     })
 }
 
-/// Four radii, and a refutation for each.
+/// Four radii, and a list of one step for each. The second step's clause is not empty.
 fn conjugate(alloc: Global) -> Result<Answer, AllocError> {
     let mut lists = Items::new(alloc);
     lists.push(steps(alloc, &[], &[6, 3, 4, 2], &[])?)?;

@@ -98,7 +98,8 @@ fn push_disjunctions(circuit: &mut Circuit) -> Result<(), AllocError>
     Ok(())
 }
 
-/// Gates over three inputs: three conjunctions, three disjunctions and two equivalences.
+/// A circuit with three inputs. Its gates are three conjunctions, three disjunctions, and two equivalences, the second of which
+/// is over two of the gates.
 fn eight_gates(alloc: Global) -> Result<Circuit, AllocError>
     ensures { IfOk result (λ circuit. circuit.inputs ≡ 3) }
 {

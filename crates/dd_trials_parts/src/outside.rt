@@ -5,8 +5,8 @@ use dd_outside::{
 };
 use std::test::Fail;
 
-// A row has the limit, the most bytes that a read gives, the number of the read that fails (0 if none does), and the result for
-// the bytes `abcd`.
+// A row has the limit, the most bytes that a read gives, the number of the read that fails if it is made (0 for none), and the
+// result for the bytes `abcd`.
 #[test]
 fn reads_to_the_end_within_a_limit(rt: HostRuntime) -> Result<(), Fail> {
     let alloc = rt.alloc();
@@ -32,8 +32,8 @@ fn reads_to_the_end_within_a_limit(rt: HostRuntime) -> Result<(), Fail> {
     Ok(())
 }
 
-// A row has the capacity, the most bytes that a write takes, the number of the write that fails (0 if none does), and how many
-// bytes of `abcd` are held in the end.
+// A row has the capacity, the most bytes that a write takes, the number of the write that fails whatever the capacity is (0 for
+// none), and how many bytes of `abcd` are held in the end.
 #[test]
 fn writes_up_to_a_fault(rt: HostRuntime) -> Result<(), Fail> {
     let alloc = rt.alloc();

@@ -1,8 +1,8 @@
 //! Small linear programs. The variables of a program are its columns, which are at least 0. A row says that the sum of its
-//! coefficients times the columns is at most its bound. The cap is a bound on column 0, which is maximised. An answer has the
-//! greatest value, the columns at which it is taken, and the duals. These are factors for the cap and the rows, and they show
-//! that no value is greater. The results were worked out by a reference implementation with exact fractions, and by trying all
-//! vertices.
+//! coefficients times the columns is at most its bound. The cap is a bound on column 0, which is maximised. An answer is a
+//! fault or a solution. A solution has the greatest value, the columns at which it is taken, and the duals. These are factors
+//! for the cap and the rows, and they show that no value is greater. The results were worked out by a reference implementation
+//! with exact fractions, and by trying all vertices.
 use dd_fraction::Fraction;
 use dd_simplex::{Program, SimplexFault, Solved, maximise};
 use std::alloc::{AllocError, Global};

@@ -1,4 +1,5 @@
-//! Rosters of engines for runs. They have engines of the program, and fake engines, most of which make wrong proposals.
+//! Rosters of engines, and sessions over them. A roster has engines of the kinds that the program uses, and fake engines, most
+//! of which make wrong proposals.
 ghost use Rattle.std.specs.Prelude.{false};
 
 use crate::runs::words_of;
@@ -134,7 +135,7 @@ pub const NO_ENGINES: &[Member] = &[];
 /// The engines of the program.
 pub const OF_PROGRAM: &[Member] = &[Member::Propagator, Member::Walker(10_000)];
 
-/// The status of a session with these words, which are separated by single blanks, this input and these engines; and how many
+/// The status of a session with these words, which are separated by single spaces, this input and these engines; and how many
 /// engines are left after it. The sink then holds what was written.
 pub fn session_over(
     alloc: Global,

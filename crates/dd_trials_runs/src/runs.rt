@@ -9,7 +9,7 @@ use std::test::Fail;
 pub const HARD: &str =
     "%rule hard o=1 -> (o.rt=0 & o.up=0)\n%conf c [2 2] 1 0 0 1\n%member c hard\n";
 
-/// The words that follow the program's name, from a text in which they are separated by single blanks.
+/// The words that follow the program's name, from a text in which they are separated by single spaces.
 pub fn words_of(alloc: Global, text: &str) -> Result<Vec<String>, AllocError> {
     let mut words = Vec::new(alloc);
     for word in text.split(' ') {
@@ -47,7 +47,8 @@ pub fn run_on(alloc: Global, bytes: &[u8]) -> Result<(Status, Vec<u8>), AllocErr
     Ok((ran.status, ran.output))
 }
 
-/// The first line of each answer in an output, each with a line feed. Fails if the output is not UTF-8, or if memory runs out.
+/// The lines of an output that begin with the word `query`, each with a line feed. If no line of its script does, these are the
+/// first lines of its answers. Fails if the output is not UTF-8, or if memory runs out.
 pub fn first_lines(alloc: Global, output: Vec<u8>) -> Result<String, Fail> {
     let mut lines = String::new(alloc);
     for line in String::from_utf8(output)?.lines() {

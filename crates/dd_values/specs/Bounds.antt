@@ -25,7 +25,7 @@ most_weight = 1000
 abbrev pub widest_radius : ℕ
 widest_radius = 3
 
--- the highest limits that a script may set on the radius of a box, on each period of a torus and on the number of pivots
+-- the highest limits that a script may set on the radii and the periods that a search tries, and on the number of pivots
 abbrev pub greatest_radius : ℕ
 greatest_radius = 8
 

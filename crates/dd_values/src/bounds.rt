@@ -1,5 +1,7 @@
-//! Limits that more than one crate uses. A box of radius n holds the positions whose coordinates are all from -n to n. On a
-//! torus, positions that differ by a period along an axis count as the same. A pivot is a step of the simplex method.
+//! Limits that more than one crate uses. Some answers are found by a search through boxes and tori. A box of radius n holds the
+//! positions whose coordinates are all from -n to n. A torus stands for the configurations with given periods along the axes
+//! and, perhaps, a shear, which says how far each repetition along the second axis is moved along the first. A pivot is a step
+//! of the simplex method.
 
 /// The greatest number of variables in a clause list, and in a circuit, where each input and each gate has a variable.
 pub const MOST_VARIABLES: u64 = 1 << 24;
@@ -19,10 +21,10 @@ pub const MOST_WEIGHT: u32 = 1000;
 /// The greatest radius of a ball in a formula, and the greatest radius and margin of a discharging query.
 pub const WIDEST_RADIUS: u32 = 3;
 
-/// The highest limit that a script may set on the radius of a box.
+/// The highest limit that a script may set on the radii that the search tries.
 pub const GREATEST_RADIUS: u32 = 8;
 
-/// The highest limit that a script may set on each period of a torus.
+/// The highest limit that a script may set on the periods that the search tries.
 pub const GREATEST_PERIOD: u32 = 8;
 
 /// The highest limit that a script may set on the number of pivots.

@@ -1,5 +1,6 @@
 //! Data that most crates use: a list and a heap box, of which contracts see only the contents, and limits that several crates
-//! share.
+//! share. The crate's `specs/` also has the ranges of these limits, counts of faults and of what engines did, the truth values
+//! of numbered variables, and lemmas on truth values, numbers and lists.
 #![tactic(auto)]
 
 mod bounds;

@@ -1,17 +1,17 @@
-//! The limits on the work for one answer.
+//! The limits that a script may set on the work for one answer.
 ghost use Rattle.std.specs.Prelude.{◌↔◌, IsTrue};
 ghost use Rattle.dd_values.specs.Ranges.{AreLimits};
 
 use crate::bounds::{GREATEST_PERIOD, GREATEST_RADIUS, MOST_PIVOTS};
 
-/// The limits on the work for one answer. Beyond them the answer is UNKNOWN.
+/// The limits that a script may set on the work for one answer. If they leave the question undecided, the answer is UNKNOWN.
 #[derive(Clone, Copy, Debug, PartialEq, Eq)]
 pub struct Limits {
     /// The greatest radius of a box around the origin that the search tries. One box is tried even if its radius is greater:
-    /// the smallest one that holds all cells that the goal reads. (The goal is what the search looks for, such as a broken
-    /// rule.)
+    /// the smallest one that holds all cells that the goal reads at the origin. (The goal is what the search looks for, such as
+    /// a broken rule.)
     pub radius: u32,
-    /// The greatest period of a torus along each axis.
+    /// The greatest period, along each axis, of the tori that the search tries.
     pub period: u32,
     /// The greatest number of simplex pivots for the linear program of a discharging bound.
     pub pivots: u32,

@@ -1,4 +1,4 @@
--- A box question takes few enough clauses for every radius up to the largest that may be tried.
+-- A box question takes few enough clauses for every radius up to the largest that may be tried. The radius of a YES is within its bounds.
 use Rattle.std.proofs.Common.{ℕ, ◌<◌, ◌≤◌, List, arith}
 use Rattle.std.specs.Prelude.{max}
 use Rattle.dd_lattice.specs.Boxes.{centred, volume}

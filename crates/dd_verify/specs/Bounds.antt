@@ -18,11 +18,12 @@ use Rattle.dd_certificate.specs.declared.answer.Answer.TheVariants as answer
 
 -- Least densities. A strip has periods along y and z, listed by `strip`, and no end along x. A configuration lives on the strip if it has allowed
 -- symbols, these two periods, any period along x and no shear, and obeys the rule. `ws` lists the weights of the symbols, and the density of a
--- configuration is its weight per position. A slice consists of the strip's cells with one value of x. A state of the strip's transfer graph is a
--- filling of consecutive slices. It has an edge for each filling of the next slice that may follow it. A certificate for the density p / q has a
--- closed walk through this graph, and potentials (a number for each state) which show that no closed walk has a smaller mean weight. The mean weight
--- of the walk, divided by the number of positions in a slice, is p / q. Or a certificate has ranks (a number for each state, which falls along each
--- edge). They show that there is no closed walk, and so no configuration on the strip.
+-- configuration is its weight per position. A slice consists of the strip's cells with one value of x. A state of the strip's transfer graph gives each
+-- cell of a number of consecutive slices a symbol of the alphabet, whether or not the cell's node allows it. It has an edge for each filling of the
+-- next slice that may follow it. A certificate for the density p / q has a closed walk through this graph, and potentials (a number for each state)
+-- which show that no closed walk has a smaller mean weight. The mean weight of the walk, divided by the number of positions in a slice, is p / q. Or a
+-- certificate has ranks (a number for each state, which falls along each edge). They show that there is no closed walk, and so no configuration on the
+-- strip.
 pub data IsStripCertificate (x : LocalRule) (strip ws : List ℕ) : Answer → Type 0 where
   strip_least : {p q : ℕ} {cycle : List ℕ} {potentials : List ℤ} → IsDensityCertificate x (strip_for x strip) ws p q cycle potentials →
       IsStripCertificate x strip ws (answer.Density p q cycle potentials)
@@ -43,10 +44,11 @@ pub data StripClaim (x : LocalRule) (strip ws : List ℕ) : Answer → Type 0 wh
   claims_least : {p q : ℕ} {cycle : List ℕ} {potentials : List ℤ} → IsLeastOnStrip x strip ws p q cycle potentials → StripClaim x strip ws (answer.Density p q cycle potentials)
   claims_empty : {ranks : List ℕ} → StripEmpty x (strip_for x strip) (greatest ranks + state_length x) → StripClaim x strip ws (answer.Empty ranks)
 
--- Discharging. Each position first holds a weight, and then gives amounts along the vectors `vs`. What a position gives depends on the symbols of the
--- box of radius `radius` round it. A certificate has amounts with which each position then holds at least the bound, and duals (factors of the rows
--- of a linear program) which show that no amounts do better. The program is made from the fillings of a finite region, which is enlarged by `margin`
--- in every direction. Or the answer is UNKNOWN, with a reason why no bound was found.
+-- Discharging. Each position first holds a weight, and then gives amounts along the vectors `vs`. What a position gives along a vector depends on the
+-- symbols of the box of radius `radius` round it. A certificate has amounts that meet the rows of a linear program: in each admissible filling of a
+-- finite region, the origin then holds at least the bound. It also has duals (factors of the rows) which show that no amounts that meet the rows give a
+-- greater bound. The region consists of the boxes of this radius round the origin and round the positions that give to it, enlarged by `margin` in
+-- every direction. Or the answer is UNKNOWN, with a reason why no bound was found.
 pub data IsDischargeCertificate (x : LocalRule) (radius margin : ℕ) (vs : List Place) (ws : List ℕ) : Answer → Type 0 where
   best : {p q n : ℕ} {amounts duals : List ℕ} → IsBoundCertificate x ws radius margin vs (bound_claimed p q n amounts duals) →
       IsDischargeCertificate x radius margin vs ws (answer.Bound p q n amounts duals)

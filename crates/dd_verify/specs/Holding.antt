@@ -76,7 +76,7 @@ TellsCovered x a ps = (look : Look) (v : Place) (ss : List ℕ) → AreReadAt x 
 -- what a list ps of minimal patterns of the node a claims
 pub record SayMinimal (x : LocalRule) (a : ℕ) (ps : List (List (Option ℕ))) : Type 0 where
   pub tells : TellsCovered x a ps
-  -- each cell of a pattern is needed: without it, the pattern would forbid something that the rule allows
+  -- each cell that a pattern keeps is needed: without it, the pattern would forbid something that the rule allows
   pub needed : All (NeedsEach x a) ps
   -- each pattern is new: some filling that breaks the rule agrees with this pattern, and with no earlier one
   pub new : AreNew x a [] ps

@@ -76,9 +76,9 @@ pub(crate) fn check_box(
     }
 }
 
-/// Whether the configuration certifies a NO on this side, and an output can hold this NO. On the left side, the configuration
-/// must obey `left` and break `right` at the origin. On the right side, it must obey `right` and break `left` at the origin.
-/// For `Side::Whole`, the result is false.
+/// Whether the configuration certifies a NO on this side, and an output can hold this NO. The left side is the box question
+/// with the premise `left` and the goal that `right` is broken, and the right side is the other one. For `Side::Whole`, the
+/// result is false.
 fn check_side(
     alloc: Global,
     left: &Rule,

@@ -1,6 +1,6 @@
 //! The check of answers to conjugacy questions. A conjugacy question asks whether two maps between two subshifts are inverse to
 //! each other. It comes down to four box questions. The first two ask whether each map leads from its subshift into the other
-//! one. The last two ask whether each map, followed by the other one, changes nothing.
+//! one. The last two ask whether each map, followed by the other one, leaves each configuration of its subshift as it is.
 ghost use Rattle.std.specs.Prelude.{[], ◌<◌, ◌↔◌, length, slice_index_or, IsTrue, IfOk};
 ghost use Rattle.dd_boxes.specs.Views.{goal_of};
 ghost use Rattle.dd_certificate.specs.declared.answer.Answer.TheVariants as answer;

@@ -15,13 +15,14 @@
 //! Many questions are box questions. A box question has a rule (its premise) and a goal: a property of a position, such as that
 //! another rule is broken there (false at one of the position's nodes), or that two automata have different values there. The
 //! goal reads the cells that its rule or its automata read. The question asks whether no configuration that obeys the premise
-//! has the goal at any position. A certificate for YES has a radius, and the steps of a refutation. The steps show that no
-//! admissible filling of the box of this radius round the origin has the goal at the origin. (A filling gives each cell of the
-//! box a symbol that the cell's node allows. It is admissible if the premise is true at each of its cells where all cells that
-//! the premise reads have symbols.) A certificate for NO has a periodic configuration of allowed symbols that lives in the
-//! premise's subshift and has the goal at the origin. The question's limits bound the periods. They also bound the radius,
-//! unless only a larger box has all cells that the goal reads at the origin. The answer UNKNOWN to a box question claims
-//! nothing. It is a certificate if its reason is that the limits were reached.
+//! has the goal at any position. (The configurations of box questions have allowed symbols.) A certificate for YES has a
+//! radius, and the steps of a refutation. The steps show that no admissible filling of the box of this radius round the origin
+//! has the goal at the origin. (A filling gives each cell of the box a symbol that the cell's node allows. It is admissible if
+//! the premise is true at each of its cells where all cells that the premise reads have symbols.) A certificate for NO has a
+//! periodic configuration of allowed symbols that lives in the premise's subshift and has the goal at the origin. The
+//! question's limits bound the periods. They also bound the radius, unless only a larger box has all cells that the goal reads
+//! at the origin. The answer UNKNOWN to a box question claims nothing. It is a certificate if its reason is that the limits
+//! were reached.
 #![tactic(auto)]
 
 mod answering;

@@ -1,4 +1,4 @@
--- Tokens that are read as a formula are the text of that formula.
+-- Tokens that are read as a formula are the text of that formula, and the formula may stand where it was read.
 use Rattle.std.proofs.Common.{◌≡◌, ℕ, zero, suc, ◌-◌, ◌≤◌, ◌<◌, Bool, true, List, [], ◌∷◌, ◌++◌, map, length, drop, Some, IfSome, refl, sym, ap, subst, ◌∙◌, append_assoc, arith, le-leb, leb-true, inl, inr, nat_le}
 use Rattle.std.specs.List.{flat_map, list_all}
 use Rattle.std.proofs.lemmas.{Bool.cases_Bool, List.length-map, Option.MatchOption-at_some}

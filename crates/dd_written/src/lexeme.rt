@@ -59,7 +59,7 @@ pub enum Mark {
     BothWays,
 }
 
-/// A token, as the grammar sees it.
+/// A token, as the grammar sees it, or `Stray`.
 #[derive(Clone, Copy, Debug, PartialEq, Eq)]
 pub enum Lexeme {
     /// Letters from `a` to `z`.
@@ -71,6 +71,6 @@ pub enum Lexeme {
     /// A mark.
     Mark(Mark),
     /// Stands for the first byte that isn't allowed, and for all bytes after it. `Tokens` of `dd_tokens` says which bytes
-    /// aren't allowed. `Stray` comes last in the list of lexemes, and no command contains it.
+    /// aren't allowed. `Stray` comes last in the list of lexemes, and no well-formed command contains it.
     Stray,
 }

@@ -1,6 +1,7 @@
 //! The grammar of formulas. Bytes are read as lexemes, which are the tokens of a script as the grammar sees them: words,
-//! numbers and marks such as `->`. Lexemes are read as syntax trees. A reader is a function that takes an item from the front
-//! of some tokens, and returns it with the tokens after it.
+//! numbers and marks such as `->`. One more lexeme, `Stray`, stands for the first byte that isn't allowed and for all bytes
+//! after it. Lexemes are read as syntax trees. A reader is a function that takes an item from the front of some tokens, and
+//! returns it with the tokens after it.
 //!
 //! A sign is `&`, `|`, `->` or `<->`, and a chain is two or more formulas with the same sign between them. The depth of an
 //! atom, a formula without parts, is 0. Each `!`, quantifier, pair of parentheses and sign is one deeper than its deepest part.

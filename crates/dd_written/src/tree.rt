@@ -11,8 +11,8 @@ pub enum Name {
     Number(Number),
 }
 
-/// A word followed by moves, as in `o.rt.up`. Each move goes along an edge of the topology, and is given by the edge's label. A
-/// term stands for the cell to which the moves lead.
+/// A word and the moves that follow it, if any, as in `o.rt.up`. Each move goes along an edge of the topology, and is given by
+/// the edge's label. If the word is a variable, the term stands for the cell to which the moves lead from the variable's cell.
 #[derive(Debug, Drop)]
 pub struct Term {
     /// A variable. In a `Comparand` it may instead name a symbol.

@@ -1,4 +1,4 @@
-//! Parts of a text, and the bytes of words.
+//! Parts of a text, the bytes of words, and whether two texts are the same.
 ghost use Rattle.std.specs.Prelude.{◌≡◌, bytes_eq, take, drop};
 ghost use Rattle.dd_written.specs.Values.{word_text};
 

@@ -1,4 +1,4 @@
--- The part of a filling that lies in a moved box.
+-- The part of a filling that lies in a moved box. Also that a box lies in Z^d, and that a larger box contains a smaller one.
 use Rattle.std.proofs.Common.{◌≡◌, ℕ, ◌≤◌, Bool, true, false, refl, ap, sym, ◌∙◌, None, arith, ℤ, pos}
 use Rattle.std.proofs.lemmas.Int.{ints}
 use Rattle.std.proofs.lemmas.Bool.{and_parts, and_from, cond_both, leb-true, le-leb}

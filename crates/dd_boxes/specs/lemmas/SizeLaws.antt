@@ -1,5 +1,5 @@
--- If a question has at most `most_clauses` clauses on its largest region, it has at most that many on each region with no more
--- positions, such as each smaller box.
+-- If the bound on the number of a question's clauses is at most `most_clauses` on its largest region, it is at most that on each
+-- region with no more positions, such as each smaller box. Also how many positions a box has.
 use Rattle.std.proofs.Common.{◌≡◌, ℕ, zero, suc, ◌+◌, ◌*◌, ◌^◌, ◌≤◌, ap, ◌∙◌, arith, pos}
 use Rattle.std.proofs.{Math.Nat.pow-zero, Math.Nat.pow-suc, lemmas.Int.ints, lemmas.Nat.mul-le}
 use Rattle.std.specs.Prelude.{◌-ℤ◌}
@@ -7,7 +7,7 @@ use Rattle.dd_lattice.specs.Boxes.{span, centred, volume}
 use Rattle.dd_formula.specs.{LocalRule.LocalRule, Counts.place_clauses, Counts.largest_region, Counts.largest_clauses}
 use Rattle.dd_boxes.specs.{Goals.GoalOf, Counts.goal_clauses, Counts.question_clauses, Counts.most_clauses}
 
--- a region with more positions has at least as many clauses
+-- the bound for a region with more positions is at least as great
 sum_up : (n m each rest : ℕ) → n ≤ m → n * each + rest ≤ m * each + rest
 sum_up n m each rest le = let most : n * each ≤ m * each = mul-le n each m each le (omega arith) in omega (arith, most)
 

@@ -1,4 +1,5 @@
--- Lists of gates: adding a gate, the gate at an index, and gates over more variables.
+-- Lists of gates: two lists joined, a gate added, the first gates dropped, and the gate at an index. Also gates over more variables, and lists of two
+-- signals.
 use Rattle.std.proofs.Common.{◌≡◌, ℕ, zero, suc, ◌+◌, ◌<◌, ◌≤◌, List, [], ◌∷◌, ◌++◌, length, drop, arith, get_or}
 use Rattle.std.proofs.lemmas.List.Elements.{All-weaker, All-nil, All-cons}
 use Rattle.dd_circuit.specs.declared.gates.{Signal.Signal, Gate.Gate}

@@ -1,4 +1,5 @@
--- For any values of the inputs, exactly one list starts with them and then has one value for each gate, the gate's value: the list `values_from`.
+-- For any values of the inputs, exactly one list starts with them and then has one value for each gate, the gate's value: the list `values_from`. The
+-- lemmas before this say what a gate's value depends on, and the last ones what one more gate adds to the list.
 use Rattle.std.proofs.Common.{◌≡◌, ℕ, suc, ◌+◌, ◌<◌, ◌≤◌, Bool, true, false, List, [], ◌∷◌, ◌++◌, length, refl, ap, sym, ◌∙◌, arith, get_or, take, length-append, append_assoc}
 use Rattle.std.proofs.lemmas.Bool.{and_parts}
 use Rattle.std.proofs.lemmas.List.{append-nil, take_more, take_at, take_all, length-take-le, get_or-take, get_or_append_left}

@@ -1,4 +1,5 @@
--- The clauses of gates are satisfied exactly when the gates' variables have the gates' values.
+-- The clauses of gates are satisfied exactly when the gates' variables have the gates' values. The clauses of two joined lists of gates are those of
+-- the first list and then those of the second.
 use Rattle.std.proofs.Common.{◌≡◌, ℕ, suc, Bool, true, false, List, [], ◌∷◌, map, refl, ◌∙◌, ◌++◌, arith, sym, ◌+◌, length, append_assoc}
 use Rattle.std.proofs.lemmas.List.Folds.{list_all-append}
 use Rattle.std.specs.{Prelude.not, Prelude.if◌then◌else◌, Prelude.◌||◌, Prelude.◌&&◌, Prelude.◌-◌, List.list_all, List.list_any, Bool.beq}

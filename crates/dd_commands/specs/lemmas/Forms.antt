@@ -1,5 +1,5 @@
--- The reader of a form reads exactly what is written in that form. Lemmas say when this property carries over from forms to their
--- combinations.
+-- The property `Reads`: the reader of a form reads exactly what is written in that form. Lemmas say when this property carries over from forms to
+-- their combinations.
 use Rattle.std.proofs.Common.{◌≡◌, ℕ, ◌≤◌, ◌<◌, List, [], ◌∷◌, ◌++◌, length, Option, Some, None, refl, sym, ap, ◌∙◌, arith, Bool, true, if◌then◌else◌, is_some, nat_le, flat_map, eqb-true, eq-eqb, leb-true, le-leb, length-append}
 use Rattle.std.proofs.lemmas.{Option.cond_some, Option.some_pair_parts}
 use Rattle.dd_commands.specs.Tree.{Lexeme}
@@ -58,8 +58,8 @@ then_reads {X} {Y} {f} {g} is ended are = record {
   last = are.last;
 }
 
--- if `make` makes new items from the items of a form, and the new items are written as the tokens that `text` gives, `Reads`
--- carries over to the new items
+-- Suppose that `make` makes new items from the items of a form, and each new item from its `parts`, which have this form. If the new items are written
+-- as the tokens that `text` gives, and any tokens may follow an item of the form, then `Reads` carries over to the new items.
 pub text_reads : {X Y : Type 0} {f : Form X} (make : X → Y) (parts : Y → X) (text : Y → List Lexeme) → ((x : X) (rest : List Lexeme) → f.onto x rest ≡ text (make x) ++ rest) → ((y : Y) → make (parts y) ≡ y)
     → ((y : Y) → f.is (parts y)) → ((rest : List Lexeme) → f.ends rest) → Reads f → Reads (by_text text (made make f.item))
 text_reads {X} {Y} {f} make parts text spelt same right free is = record {

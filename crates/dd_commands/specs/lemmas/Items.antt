@@ -1,4 +1,4 @@
--- Names, numbers, vectors and edges are read as they are written.
+-- Words, numbers, names, marks, vectors, shears and edges are read as they are written.
 use denote.Enum.Bare.{same_true, true_same}
 use Rattle.std.proofs.Common.{◌≡◌, true, List, [], ◌∷◌, ◌++◌, map, Option, Some, None, refl, ap, subst, append_assoc, arith}
 use Rattle.std.proofs.lemmas.{List.Concat.flat_map_single, Option.cond_some}

@@ -1,4 +1,4 @@
--- The state of the loops that make the gates of an automaton's value, where the automaton is given by cases.
+-- The state of the loops that make the gates of the choices and of the symbols, for the value of an automaton that is given by cases.
 use Rattle.std.proofs.Common.{◌≡◌, ◌<◌, ◌≤◌, ℕ, zero, suc, ◌+◌, Bool, true, false, List, [], ◌∷◌, ◌++◌, map, length, take, drop, get_or, refl, ap, sym, ◌∙◌, subst, arith, append_assoc, drop-cons, add-one}
 use Rattle.std.proofs.lemmas.List.{map-append, take_more, drop_all}
 use Rattle.std.proofs.lemmas.List.Elements.{All-push, All-weaker}

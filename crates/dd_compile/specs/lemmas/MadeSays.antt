@@ -1,4 +1,4 @@
--- The signal of an expansion's gates has the expansion's value.
+-- If the wires of an expansion's leaves say which symbols cells have, the signal of its gates has the expansion's value.
 use Rattle.std.proofs.Common.{◌≡◌, ℕ, suc, ◌+◌, Bool, true, false, List, [], ◌∷◌, ◌++◌, map, length, refl, ap, sym, ◌∙◌, arith}
 use Rattle.std.proofs.lemmas.Bool.{and_parts}
 use Rattle.std.specs.{Prelude.not, Prelude.if◌then◌else◌, List.list_all, List.list_any, Bool.beq}

@@ -1,4 +1,4 @@
--- What refuted clauses say about the weights of the living configurations.
+-- What refuted clauses say about the weights of the living configurations, and why there is at most one least weight.
 use Rattle.std.proofs.Common.{◌≡◌, ℕ, zero, suc, ◌<◌, ◌≤◌, List, length, arith, inl, inr}
 use Rattle.std.proofs.lemmas.Bool.{cases_lt}
 use Rattle.dd_derivation.specs.{declared.step.Step.Step, Derivations.IsRefuting, lemmas.Soundness.refutes_sound}

@@ -32,7 +32,7 @@ HasChain chains l = (1 ≤ l.variable) × (place_of l < length chains.firsts.ite
 abbrev pub numbers_of : Chains → Literal → List ℕ
 numbers_of chains l = chain_of chains.links.items (slice_index_or chains.firsts.items (place_of l) 0)
 
--- each literal's chain lists the clauses that contain the literal, where the clauses are numbered from `first` on
+-- each literal's chain lists the clauses that contain the literal, each as often as the clause contains it; the clauses are numbered from `first` on
 abbrev pub AreChained : Chains → ℕ → List (List Literal) → Type 0
 AreChained chains first clauses = (l : Literal) → HasChain chains l → numbers_of chains l ≡ occurrences l first clauses
 

@@ -1,4 +1,4 @@
--- How many literals of each clause are true, which clauses contain a literal, and how a flip changes the counts.
+-- How many literals of each clause are true, which clauses contain a literal, how a flip changes the counts, and which blocks of clauses have a mark.
 use Rattle.std.specs.Prelude.{◌≡◌, ℕ, ◌+◌, ◌-◌, ◌*◌, ◌/◌, ◌^◌, ◌<◌, ◌≤◌, ◌==◌, min, if◌then◌else◌, Bool, true, false, List, [], ◌∷◌, ◌++◌, length, replicate, count_by, slice_get, slice_index_or, slice_set}
 use Rattle.std.specs.Option.{option_map_or}
 use Rattle.dd_clause.specs.{declared.clause.Literal.Literal, Clauses.is_true_under}

@@ -1,4 +1,5 @@
--- The leaves of a formula's expansion are at the cells that the formula reads, and their symbols are symbols of the alphabet.
+-- If the alphabet has a symbol, the leaves of a formula's expansion are at exactly the cells that the formula reads. If `formula_fits` holds of the
+-- formula, the leaves' symbols are symbols of the alphabet.
 use Rattle.std.proofs.Common.{◌≡◌, ◌<◌, ◌≤◌, ℕ, zero, suc, ◌+◌, Bool, true, false, List, [], ◌∷◌, ◌++◌, map, refl, ap, sym, ◌∙◌, Some, None, arith, Contains, subst}
 use Rattle.std.proofs.lemmas.Bool.{and_parts, and_from, lt-ltb}
 use Rattle.std.proofs.lemmas.List.Folds.{list_all-append, list_all-map}

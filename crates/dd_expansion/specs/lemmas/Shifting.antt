@@ -25,7 +25,8 @@ option_map_both : {A B C : Type 0} (f : B → C) (g : A → B) (h : A → C) (sa
 option_map_both f g h same None = refl
 option_map_both f g h same (Some a) = ap Some (same a)
 
--- if a cell is moved by v, so are the cells to which edges and moves lead from it, and the cells of the balls round it
+-- If a cell is moved by v, so are the cells to which edges and moves lead from it, the cells from which edges lead to it, and the cells of the balls
+-- round it. If two cells are moved by v, whether they are adjacent, and whether they are the same, stays as it was.
 module _ (v : Place) where
   pub end_of_shifted : (c : Cell) (e : Edge) → end_of (shifted v c) e ≡ shifted v (end_of c e)
   end_of_shifted c e = ap (λ p. cell p e.to) (moved_both c.position v e.offset)

@@ -1,4 +1,5 @@
--- The expansion at the origin, given the symbols as seen from a cell, has the truth value of the formula at that cell.
+-- The expansion at the origin, given the symbols of cells relative to some cell's position, has the truth value of the formula at that cell. If each
+-- cell that is read has a symbol as seen from there, the same holds with the symbols as seen from there.
 use Rattle.std.proofs.Common.{◌≡◌, ◌≤◌, ℕ, Bool, true, false, List, [], ◌∷◌, refl, ap, sym, ◌∙◌, Some, None, cond}
 use Rattle.std.proofs.lemmas.Bool.{cond_both}
 use Rattle.std.specs.{Prelude.is_some, List.list_all}

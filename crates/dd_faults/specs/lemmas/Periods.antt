@@ -3,7 +3,7 @@ use Rattle.std.proofs.Common.{◌≡◌, ℕ, ◌≤◌, zero, suc, List, [], �
 use Rattle.std.specs.{Prelude.slice_get, Option.option_map_or}
 use Rattle.dd_faults.specs.{Tree.Entry, Commands.entry_value}
 
--- the entry for an axis; 1 if there is none
+-- the absolute value of the entry for an axis; 1 if there is none
 abbrev pub entry_at : List ℕ → List Entry → ℕ → ℕ
 entry_at bytes es axis = option_map_or (entry_value bytes) (slice_get es axis) 1
 

@@ -1,6 +1,6 @@
--- The counts of an automaton, from the counts of its parts, and what follows from its limits. Claims about all automata are proved by induction.
--- `Known`, `Limited` and `Uniform` pair an automaton with a proof of such a claim about it; `layer`, `limited_layer` and `uniform_layer` drop the
--- proofs.
+-- The counts of an automaton, from the counts of its parts; what follows from its limits and from the setting that it fits; automata without rules.
+-- Claims about all automata are proved by induction. `Known`, `Limited` and `Uniform` pair an automaton with a proof of such a claim about it; `layer`,
+-- `limited_layer` and `uniform_layer` drop the proofs.
 use Rattle.std.proofs.Common.{◌≡◌, ◌<◌, ◌≤◌, ℕ, zero, suc, ◌+◌, Bool, true, false, List, [], ◌∷◌, ◌++◌, Option, Some, None, MatchOption, length, get_or, map, max, refl, ap, sym, ◌∙◌, inl, inr, subst, arith}
 use Rattle.std.proofs.Math.Nat.{eq-or-lt_of_le}
 use Rattle.std.proofs.lemmas.Bool.{and_parts, and_from, leb-true, lt-ltb, ltb-true, eqb-true}
@@ -193,7 +193,7 @@ passes_at p [] i x h below is = absurd (omega arith)
 passes_at p (y ∷ ys) zero x h below is = ap p is ∙ (and_parts (p y) (list_all p ys) h).0
 passes_at p (y ∷ ys) (suc i) x h below is = passes_at p ys i x (and_parts (p y) (list_all p ys) h).1 (omega arith) is
 
--- a rule that has the numbers of a setting reads only cells of the setting
+-- a well-formed rule that has the numbers of a setting reads only cells of the setting
 pub rule_reads : (s : CommonNumbers) (r : LocalRule) (a : ℕ) → IsRule r → rule_has s r ≡ true → a < s.nodes → list_all (is_cell_of s) (cells_at r a) ≡ true
 rule_reads s r a rule has below =
     let two = and_parts (r.dimension == s.dimension && r.nodes == s.nodes) (r.symbols == s.symbols) has in

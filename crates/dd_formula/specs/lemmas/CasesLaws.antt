@@ -1,4 +1,5 @@
--- Why a formula can't be made into a rule, or cases into an automaton.
+-- Why a formula can't be made into a rule, or cases into an automaton. The case that a loop over the cases has reached, and the numbers of a rule over
+-- a topology.
 use Rattle.std.proofs.Common.{◌≡◌, ◌<◌, ◌≤◌, ℕ, true, false, List, length, get_or, refl, ap, ◌∙◌, subst, arith}
 use Rattle.std.proofs.lemmas.Bool.{and_from, lt-leb, eq-eqb}
 use Rattle.std.specs.{Prelude.nat_le, List.list_all}

@@ -20,6 +20,7 @@ module _ {X : Type 0} where
       total-map f (take (i + 1) xs)
       ∙ (sum_by_more f xs i x below ∙ (ap (λ n. n + f (get_or xs i x)) (sym (total-map f (take i xs))) ∙ ap (λ y. total (map f (take i xs)) + f y) (sym is)))
 
+  -- the sum over the first elements is at most the sum over all
   pub total-take-le : (f : X → ℕ) (xs : List X) (i : ℕ) → total (map f (take i xs)) ≤ total (map f xs)
   total-take-le f xs i = omega (arith, total-map f (take i xs), total-map f xs, sum_by-take-le f xs i)
 

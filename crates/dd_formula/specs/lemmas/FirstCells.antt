@@ -1,4 +1,5 @@
--- Cells of a fundamental box: they lie in Z^d, and there is at most one first cell at which a rule is false.
+-- Cells of a fundamental box: they lie in Z^d. There is at most one first cell at which a rule is false, and if there is one, the configuration isn't
+-- in the subshift.
 use Rattle.std.proofs.Common.{◌≡◌, ℕ, ◌<◌, ◌||◌, Bool, true, false, ℤ, pos, refl, ap, sym, subst, ◌∙◌, arith}
 use Rattle.std.proofs.lemmas.Bool.{ltb-false, false≢true}
 use Rattle.std.proofs.lemmas.Cmp.{nat_cmp_total, int_cmp_total, on_total, then_total}
@@ -29,7 +30,7 @@ flat_in_box t c tile at =
     (axis_flat (nat_lt 2 t.dimension) c.position.z
     (λ unused. base_flat c.position.z t.periods.z (tile.periods.z_unused (let low = ltb-false 2 t.dimension unused in omega (arith, low))) (ap (λ (p : Place). p.z) at.base)))
 
--- a configuration isn't in the subshift if the rule is false at a cell of its box
+-- a configuration that fits the rule isn't in the subshift if its box has a first cell at which the rule is false
 pub not_both : (x : LocalRule) (t : Tile) → IsTile t → Fits x t → (c : Cell) → IsFirstFalse x t c → Lives x t → ⊥
 not_both x t tile fits c first lives =
     let flat : is_flat x.dimension c.position ≡ true = subst (λ d. is_flat d c.position ≡ true) fits.dimension (flat_in_box t c tile first.within) in

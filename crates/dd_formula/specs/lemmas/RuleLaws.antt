@@ -1,4 +1,5 @@
--- Whether a rule is true at a cell, from its expansion at the cell's node and from the symbols that it reads at the cell.
+-- Whether a rule is true at a cell, from its expansion at the cell's node and from the symbols that it reads at the cell. Tests of the cells that a
+-- rule reads.
 use Rattle.std.proofs.Common.{◌≡◌, ◌≤◌, ℕ, Bool, true, [], ◌∷◌, ap, sym, ◌∙◌, Some, None}
 use Rattle.std.proofs.lemmas.Bool.{eqb-true}
 use Rattle.std.specs.{Prelude.Option, Prelude.is_some, List.list_all}

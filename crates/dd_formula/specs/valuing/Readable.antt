@@ -1,4 +1,5 @@
--- What each step in evaluating a composition needs: well-formed automata, and a symbol of the alphabet for each cell that is read.
+-- What each step in evaluating a composition needs: well-formed automata, and a symbol of the alphabet for each cell that is read. Fillings that show
+-- the symbols of cells moved by a vector.
 use Rattle.std.specs.{Prelude.ℕ, Prelude.◌<◌, Prelude.◌≡◌, Prelude.true, Prelude.List, List.list_all}
 use Rattle.dd_lattice.specs.{Place.Place, declared.position.Cell.Cell}
 use Rattle.dd_pattern.specs.{Reading.Look, Reading.HasSymbolsBelow, Filling.Filled, Filling.filling_look}

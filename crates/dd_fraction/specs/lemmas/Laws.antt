@@ -1,5 +1,5 @@
--- The laws of exact fractions: sum, opposite, product and inverse. Each side of a law is written as `lowest` of one pair of numbers, and the two
--- pairs have equal cross products.
+-- The laws of exact fractions: sum, opposite, product and inverse. To prove most of them, each side is written as `lowest` of one pair of numbers,
+-- and the two pairs have equal cross products.
 use Rattle.std.proofs.Common.{◌≡◌, ℕ, zero, suc, ◌*◌, ◌/◌, ◌<◌, refl, sym, ap, ◌∙◌, max, arith, subst}
 use Rattle.std.proofs.{lemmas.Int.ints, Math.Nat.mul_comm, Math.Nat.zero-div}
 use lib.IntN.{ℤ, pos, negsuc, neg_ℤ, ◌+ℤ◌, ◌*ℤ◌, *ℤ_comm, +ℤ_comm, neg_ℤ-neg_ℤ}

@@ -1,4 +1,4 @@
--- Products of whole numbers. An expression is written as one difference of natural numbers, which `omega` multiplies out.
+-- Products of whole numbers, and their signs. An expression is written as one difference of natural numbers, which `omega` multiplies out.
 use Rattle.std.proofs.Common.{◌≡◌, ℕ, zero, suc, ◌+◌, ◌*◌, ◌<◌, ap, arith}
 use Rattle.std.proofs.{Math.Nat.eq_of_mul-eq-mul_right, lemmas.Int.ints, lemmas.Int.by_lt_z}
 use lib.IntN.{ℤ, pos, negsuc, neg_ℤ, ◌+ℤ◌, ◌-ℤ◌, ◌*ℤ◌}

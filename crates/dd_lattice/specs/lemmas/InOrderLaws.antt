@@ -1,4 +1,4 @@
--- The ordered form of a list, `in_order`, has the same cells as the list.
+-- Cell order: positions or cells that compare equal are equal. The ordered form of a list, `in_order`, has the same cells as the list.
 use Rattle.std.proofs.Common.{◌≡◌, List, [], ◌∷◌, Bool, true, false, refl, ap, sym, ◌∙◌, rules, ◌↔◌, ◌⊎◌, inl, inr, subst, arith, get_or, ◌<◌, take, length, ℕ}
 use Rattle.std.proofs.lemmas.Map.{Lookups.exact_signed, Lookups.exact_unsigned, Keys.Less-from_sorted}
 use Rattle.std.proofs.lemmas.List.{get_or_default, get_or-take, length-take}

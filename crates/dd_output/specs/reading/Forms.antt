@@ -14,7 +14,7 @@ nothing _ = []
 abbrev pub word : List ℕ → Form (Unit {0})
 word w = record { read = word_at w; least = w }
 
--- a number from `low` to `bound`, and the byte `end` after it
+-- a number from `low`, which is 0 or 1, to `bound`, and the byte `end` after it
 abbrev pub number : ℕ → ℕ → ℕ → Form ℕ
 number low bound end = record { read = map_at (λ n. n.0) (number_at low bound end end nothing); least = (48 + low) ∷ end ∷ [] }
 
@@ -37,7 +37,7 @@ either c f g = record { read = choice_at c f.read g.read; least = g.least }
 abbrev pub counted_of : {A : Type 0} → (ℕ × ℕ) × List A → List A
 counted_of x = x.1
 
--- a count, a line feed, and that many texts of a form
+-- a count from `low`, which is 0 or 1, to `bound`, a line feed, and that many texts of a form
 abbrev pub counted : {A : Type 0} → ℕ → ℕ → Form A → Form (List A)
 counted low bound f = record {
   read = map_at counted_of (then_at (number_at low bound 10 10 (λ n. copies n f.least)) (λ n. many_at f.read f.least n.0));

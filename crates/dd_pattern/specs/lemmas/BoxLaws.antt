@@ -1,4 +1,5 @@
--- The cells of the fundamental box of a periodic configuration are numbered by the indices of their symbols. The numbers agree with cell order.
+-- The cells of the fundamental box of a periodic configuration are numbered by the indices of their symbols. The numbers agree with cell order. The
+-- cells at the origin are among them.
 use Rattle.std.proofs.Common.{◌≡◌, ℕ, ◌+◌, ◌*◌, ◌/◌, ◌%◌, ◌<◌, length, ℤ, pos, arith, refl, ap, sym, ◌∙◌}
 use Rattle.std.proofs.lemmas.Nat.{mul-add-lt, mod-mul-add, div-mul-add, div-add-mod', mod_below, div_below}
 use Rattle.std.proofs.lemmas.Int.{ints}

@@ -1,4 +1,4 @@
--- Tests of filtered lists, and lists of variables of which none is true.
+-- Items of lists that are made from ranges, tests of filtered lists, and lists of variables of which none is true.
 use Rattle.std.proofs.Common.{◌≡◌, ℕ, zero, suc, ◌+◌, ◌<◌, Bool, true, false, List, [], ◌∷◌, map, refl, ap, sym, ◌∙◌, arith, Some}
 use Rattle.std.proofs.lemmas.{Bool.and_parts, Option.slice_get_read, Option.slice_get_within}
 use Rattle.std.proofs.lemmas.List.FromFn.{get_or-range_with_len, length-range_with_len, get_or-map-range_with_len, length-map-range_with_len}

@@ -91,7 +91,7 @@ HasItsSymbols (breaks y) look = HasSymbolsBelow y.symbols look
 HasItsSymbols (differ s f g) look = HasSymbolsBelow s.symbols look
 HasItsSymbols always look = Unit {0}
 
--- the gates that tell the values of two automata apart at a node of the origin
+-- the gates that say whether the values of two automata are different at a node of the origin
 abbrev pub differ_at : Layout → CommonNumbers → Automaton → Automaton → ℕ → Maker
 differ_at l s f g a = differ_made s.symbols f g l.inputs (cell origin a)
 

@@ -1,4 +1,4 @@
--- The clauses of parts, one after the other.
+-- The clauses and the gates of parts, one after the other.
 use Rattle.std.proofs.Common.{◌≡◌, ℕ, ◌+◌, ◌≤◌, Bool, true, false, List, [], ◌∷◌, ◌++◌, map, length, refl, sym, ◌∙◌, arith}
 use Rattle.std.proofs.lemmas.{Bool.and_parts, List.Folds.list_all-append}
 use Rattle.std.specs.{Prelude.◌&&◌, List.list_all}

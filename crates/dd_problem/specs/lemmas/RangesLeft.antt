@@ -1,4 +1,4 @@
--- Loops that add clauses, over a range of variables or over cells.
+-- Loops that add literals or clauses, over a range of variables, over symbols or over cells; and where the inputs of a cell lie.
 use Rattle.std.proofs.Common.{◌≡◌, ℕ, zero, suc, ◌+◌, ◌*◌, ◌<◌, ◌≤◌, Bool, List, [], ◌∷◌, ◌++◌, map, length, take, get_or, refl, ap, sym, ◌∙◌, arith, append_assoc, true, false}
 use Rattle.std.proofs.lemmas.List.{append-nil, map-append, take_more, length-take-le}
 use Rattle.std.proofs.lemmas.{List.Elements.All-cons, Nat.mul-le}

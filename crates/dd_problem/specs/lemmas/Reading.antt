@@ -22,7 +22,7 @@ use Rattle.dd_problem.specs.lemmas.OneHot.{one_hot_law, at_most_one, hot_at, hot
 use Rattle.dd_problem.specs.lemmas.{Parts.tests, Parts.parts_law, ValueWires.GoalWired}
 use Rattle.dd_problem.specs.lemmas.Parted.{InputsTell, goal_holds, HasItsSymbols, jobs, job_reads, premise_holds, parts_say}
 
--- the symbol of a cell: the index of its first true input
+-- the symbol of a cell: the index of its first true input, or m if none is true
 abbrev pub read_symbol : (ℕ → Bool) → ℕ → ℕ → ℕ
 read_symbol set m k = position_or_len set (inputs_of m k)
 
@@ -154,14 +154,16 @@ allowed_at l x symbols ok are c true has (Some s) is =
 pub look_allowed : (l : Layout) (x : LocalRule) (symbols : List ℕ) → IsLayout l → AreSymbols x l.places symbols → AreAllowed x (layout_look l symbols)
 look_allowed l x symbols ok are c = allowed_at l x symbols ok are c (l.has c) refl (slice_get symbols (l.index c)) refl
 
--- the symbols for which a satisfying assignment stands: they are allowed, and the premise and the goal are true
+-- the symbols for which a satisfying assignment stands: they are allowed, the premise is true at each place where it fits, and the goal holds at the
+-- origin
 pub record Stands (l : Layout) (x : LocalRule) (g : GoalOf) (symbols : List ℕ) : Type 0 where
   pub symbols_fit : AreSymbols x l.places symbols
   pub premise : premise_holds l x (layout_look l symbols) ≡ true
   pub goal : goal_holds g (layout_look l symbols) ≡ true
 
--- Where the premise fits, each leaf of the premise has its input. Each cell that the goal reads at the origin has inputs. A
--- look-up that gives only symbols of the premise's alphabet gives only symbols of the goal's alphabet.
+-- The layout is well formed (`IsLayout`). Where the premise fits, each leaf of the premise has its input. If the goal has a rule, each leaf of this
+-- rule at the origin has its input. If the goal has automata, they are well formed, each cell that they read at the origin has inputs, and the gates
+-- of their values say the values. A look-up that gives only symbols of the premise's alphabet gives only symbols of the goal's alphabet.
 pub record IsWired (l : Layout) (x : LocalRule) (g : GoalOf) : Type 0 where
   pub layout : IsLayout l
   pub reads : list_all (job_reads l x g) (jobs l x) ≡ true

@@ -1,4 +1,5 @@
--- Each period of a torus, and each product of periods, is at most the number of the torus's cells, and so at most 65536.
+-- Each period of a torus, and each of the products that the code computes on the way to the number of the torus's cells, is at most 65536. Periods of
+-- at most 8 are periods that a torus may have.
 use Rattle.std.proofs.{Common.ℕ, Common.◌*◌, Common.◌≤◌, Common.arith, lemmas.Nat.mul-le}
 use Rattle.dd_pattern.specs.declared.periods.Periods.{Periods}
 use Rattle.dd_formula.specs.LocalRule.{LocalRule, IsRule}
@@ -11,7 +12,7 @@ product_small a b c n ha hb hc hn =
     let third : a * b * c * n ≤ 2048 = mul-le (a * b * c) n 512 4 second hn in
     omega arith
 
--- periods of at most 8 are periods that a torus may have
+-- periods that are within the limit of 8 are periods that a torus may have
 pub small_periods : (x : LocalRule) (p : Periods) → IsRule x → ArePeriods x.dimension p → AreTorusPeriods x.dimension x.nodes p
 small_periods x p rule ok = record { periods = ok.periods; few = product_small p.z p.y p.x x.nodes ok.z_most ok.y_most ok.x_most rule.nodes.1 }
 

@@ -1,4 +1,4 @@
--- When the layouts of boxes and tori have inputs for all that is read.
+-- When a layout has inputs for all that is read. A goal holds at the origin exactly when its test passes.
 use Rattle.std.proofs.Common.{◌≡◌, ℕ, zero, suc, ◌+◌, ◌<◌, ◌≤◌, Bool, true, false, List, [], ◌∷◌, map, refl, ap, sym, subst, ◌∙◌, arith, Some, None, inl, inr, eq-eqb}
 use Rattle.std.proofs.Math.Nat.{eq-or-lt_of_le}
 use Rattle.std.proofs.lemmas.Bool.{and_parts, and_from, or_cases, both_ways, eqb-true}
@@ -17,7 +17,8 @@ use Rattle.dd_problem.specs.lemmas.Parted.{reads_inputs, goal_holds, goal_reads,
 use Rattle.dd_problem.specs.lemmas.Reading.{IsLayout, IsWired}
 use Rattle.dd_values.specs.lemmas.Booleans.{not_true}
 
--- if all numbers of a range pass a test, each one does; and `list_any` is true of a range exactly when a number in it passes
+-- If all numbers of a range pass a test, each one does. If `list_any` is true of a range, some number below the range's end passes; and `list_any` is
+-- true if some number in the range passes.
 pub range_at : (p : ℕ → Bool) (n a k : ℕ) → list_all p (range_with_len a n) ≡ true → a ≤ k → k < a + n → p k ≡ true
 range_at p zero a k h low high = absurd (omega arith)
 range_at p (suc n) a k h low high =

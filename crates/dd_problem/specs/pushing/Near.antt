@@ -1,4 +1,4 @@
--- The cells that are read on a torus, and the layout of the torus.
+-- The cells that may be read on a torus, and the layout of the torus.
 use Rattle.std.specs.Prelude.{ℕ, nat_lt, ◌*◌, List, map, ◌++◌, slice_index}
 use Rattle.std.specs.List.{flat_map, range_with_len}
 use Rattle.dd_lattice.specs.{Cells.shifted, InOrder.in_order, declared.position.Cell.Cell}

@@ -1,4 +1,4 @@
--- Lists that are joined, mapped and filtered.
+-- Lists that are joined, mapped, filtered or cut off, and items of lists.
 use Rattle.std.proofs.Common.{◌≡◌, ◌+◌, ℕ, zero, suc, Bool, true, false, cond, List, [], ◌∷◌, ◌++◌, length, map, take, min, max, refl, sym, ◌∙◌, ap, inl, inr, arith}
 use Rattle.std.proofs.lemmas.Bool.{and_from, false≢true, cases_lt, lt-ltb, le-ltb}
 use Rattle.std.proofs.lemmas.List.Elements.{filter-append, All-take, All-from_recursion, recursion_from_All}

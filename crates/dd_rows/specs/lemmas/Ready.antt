@@ -1,4 +1,5 @@
--- Where the rule fits once the first cells have symbols. At these places, more symbols don't change whether the rule is true.
+-- Where the rule fits once the first cells have symbols. At these places, more symbols don't change whether the rule is true. So when one more cell
+-- gets a symbol, the rule has to be tested only at the places where it then fits for the first time.
 use Rattle.std.proofs.Common.{◌≡◌, ◌<◌, ◌≤◌, ◌+◌, ℕ, zero, suc, Bool, true, false, cond, List, [], ◌∷◌, ◌++◌, length, get_or, map, take, drop, min, max, refl, sym, ◌∙◌, ap, subst, inl, inr, arith, get_or-drop, length-drop, rules}
 use Rattle.std.proofs.lemmas.Bool.{and_parts, and_from, and_left, and_right, cases_lt, cases_order, cases_Bool, lt-ltb, le-ltb, ltb-true, ne_eqb, eq-eqb, false≢true}
 use Rattle.std.proofs.lemmas.List.{take-append-drop, get_or_default, length-append}

@@ -1,4 +1,5 @@
--- Rows in a sparse form: for each vector, at most two of a row's coefficients are not 0.
+-- Rows in a sparse form: for each vector, at most two of a row's coefficients are not 0. Also the first row, and the rows that fillings require, made
+-- from what the views show.
 use Rattle.std.specs.Prelude.{ℕ, ◌*◌, ◌≤◌, ◌≡◌, cond, pos, ◌-ℤ◌, ℤ, List, ◌∷◌, map, length, replicate, Option, Some, None}
 use Rattle.std.specs.{Bool.nat_eq, List.All, List.flat_map, List.range_with_len}
 use Rattle.dd_pattern.specs.Weight.{total_weight}

@@ -1,5 +1,6 @@
 -- Views, and what they show. A view is a list of cell numbers, for example those of the cells of a box around a position. It
--- shows the symbols that a filling gives to these cells. A cell's number is its index in a list of cells.
+-- shows the symbols that a filling gives to these cells. A cell's number is its index in a list of cells, or the length of the
+-- list if the cell isn't there.
 use Rattle.std.specs.Prelude.{ℕ, ◌≡◌, List, ◌∷◌, map, unwrap_or, slice_get}
 use Rattle.std.specs.{List.fold, List.range_with_len, Ordering.nat_cmp, Cmp.Lexicographic.slice_cmp, BTreeSet.insert_key}
 use Rattle.dd_lattice.specs.{Place.Place, Cells.cell, Cells.shifted, declared.position.Cell.Cell}

@@ -25,27 +25,28 @@ is_kept alive number = nat_le 1 number && slice_index_or alive (number - 1) fals
 abbrev pub AreDenied : List Bool → List Code → ℕ → ℕ → Type 0
 AreDenied denied codes from to = (p : ℕ) → from ≤ p → p < to → slice_index_or denied (code_at codes p) false ≡ true
 
--- The same as `IsStop`, in the list that says which literals are false.
+-- The same as `IsStop`, with the list `denied` in place of the list of false literals: it says of each code whether its literal is false.
 pub record StopsAt (denied : List Bool) (codes : List Code) (first end : ℕ) : Type 0 where
   pub within : end < length codes
   pub apart : first + 2 ≤ end
   pub mark : code_at codes end ≡ 0
   pub rest : AreDenied denied codes (first + 2) end
 
--- if a look at the clause with its first literal at `first` finds only false literals, it finds a stop
+-- if a look at the clause with its first literal at `first` ends with `AllFalse`, the clause is a stop
 abbrev pub FindsStop : List Bool → List Code → ℕ → Look → Type 0
 FindsStop denied codes first (Stays other) = ⊤
 FindsStop denied codes first (Moves next other) = ⊤
 FindsStop denied codes first (AllFalse end) = StopsAt denied codes first end
 
--- The literals from the third on, up to the end mark, are false. The clause's first literal is at `first`, and its end mark at `end`.
+-- A stop: a clause whose literals from the third on, up to the end mark, are false. The clause's first literal is at `first`, and its end mark at
+-- `end`.
 pub record IsStop (falses : List Literal) (codes : List Code) (first end : ℕ) : Type 0 where
   pub within : end < length codes
   pub apart : first + 2 ≤ end
   pub mark : code_at codes end ≡ 0
   pub rest : (p : ℕ) (l : Literal) → first + 2 ≤ p → p < end → code_at codes p ≡ code l → is_among falses l ≡ true
 
--- the places with this number are those from `first` to `end`
+-- the places with this number are those from `first` to `end`, of which there are at least two
 pub record AreOnly (numbers : List ℕ) (first end number : ℕ) : Type 0 where
   pub within : end < length numbers
   pub apart : first < end

@@ -78,7 +78,7 @@ pub not_not : (b : Bool) → not (not b) ≡ b
 not_not true = refl
 not_not false = refl
 
--- a literal of a variable with the value b is b if its sign is true, and not b otherwise; the opposite sign gives the opposite value
+-- a literal has the value b of its variable if its sign is true, and the value not b otherwise; the opposite sign gives the opposite value
 pub if_not : (sign b : Bool) → (if not sign then b else not b) ≡ not (if sign then b else not b)
 if_not true b = refl
 if_not false b = sym (not_not b)

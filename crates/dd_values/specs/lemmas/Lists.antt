@@ -1,4 +1,4 @@
--- Lists: members, tests, maps and ranges.
+-- Lists: their items, members and ends, and tests, maps, filters and ranges.
 use Rattle.std.proofs.Common.{suc, arith, ◌∷◌, List, [], zero, ℕ, slice_get, ◌<◌, ◌≡◌, true, get_or, false, inl, Bool, inr, length, ◌≤◌, ap, ◌∙◌, sym, refl, ◌++◌, ◌+◌, map, Some, None, subst, ◌⊎◌, cond}
 use Rattle.std.specs.List.{All, Contains, list_all, flat_map, range_with_len, list_any, filter}
 use Rattle.std.specs.Prelude.{IfSome, is_some, ◌&&◌, ◌||◌, MatchOption, Option, slice_index}
@@ -120,7 +120,7 @@ abbrev pub head_of : List ℕ → ℕ
 head_of [] = 0
 head_of (x ∷ xs) = x
 
--- two equal lists stay equal when their last items are removed
+-- two equal lists of numbers stay equal when their last items are removed
 pub same_start : (xs ys : List ℕ) (s t : ℕ) → xs ++ s ∷ [] ≡ ys ++ t ∷ [] → ys ≡ xs
 same_start [] [] s t h = refl
 same_start [] (y ∷ ys) s t h = absurd (let n = ap length h in let m = length-append ys (t ∷ []) in omega (arith, n, m))

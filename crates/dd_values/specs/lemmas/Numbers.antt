@@ -12,7 +12,7 @@ plus_zero x = omega (arith, ints)
 pub zero_plus : (x : ℤ) → (pos 0 +ℤ x) ≡ x
 zero_plus x = omega (arith, ints)
 
--- a factor of a positive product is positive
+-- the second factor of a positive product is positive
 pub part_above : (q g b : ℕ) → q * g ≡ b → 0 < b → 0 < g
 part_above q zero b e p = absurd (omega (arith, e))
 part_above q (suc g) b e p = omega arith

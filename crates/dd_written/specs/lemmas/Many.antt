@@ -1,4 +1,4 @@
--- Items one after another: they are read from their text, and from nothing else.
+-- Items read one after another: what `many` reads, how many items there are at most, and the text of all of them.
 use Rattle.std.proofs.Common.{◌≡◌, ℕ, zero, suc, ◌≤◌, ◌<◌, Bool, true, false, List, [], ◌∷◌, ◌++◌, length, Some, refl, sym, ap, subst, ◌∙◌, append_assoc, arith, inl, inr}
 use Rattle.std.specs.List.{flat_map}
 use Rattle.dd_written.specs.{Tree.Lexeme, reading.Readers.◌>>=◌, reading.Readers.Reader, reading.Readers.many, reading.Readers.ReadsAll}
@@ -18,8 +18,8 @@ many_sound {X} reads begins item sound (suc n) tokens xs rest e =
       | inr ended ↦ subst (λ (x : List X × List Lexeme). ReadsAll reads x.0 tokens x.1) (some_is _ _ ended.1) refl
     ]
 
--- If `reads` holds of an item, then `begins` must hold before it, and `item` must read it. Then `many` reads all the items of which `ReadsAll` holds,
--- if there are at most n. If there are fewer than n, `begins` must not hold after them.
+-- Suppose that wherever `reads` holds of an item, `begins` holds of its tokens, and `item` reads it from them. Then `many` reads all the items of which
+-- `ReadsAll` holds, if there are at most n of them, and if `begins` doesn't hold after them in case there are fewer.
 pub many_again : {X : Type 0} (reads : X → List Lexeme → List Lexeme → Type 0) (begins : List Lexeme → Bool) (item : Reader X)
     → ((x : X) (tokens rest : List Lexeme) → reads x tokens rest → (begins tokens ≡ true) × (item tokens ≡ Some (x, rest)))
     → (n : ℕ) (xs : List X) (tokens rest : List Lexeme) → length xs ≤ n → (length xs < n → begins rest ≡ false) → ReadsAll reads xs tokens rest → many begins item n tokens ≡ Some (xs, rest)

@@ -70,8 +70,8 @@ formula_at tokens = do
   f ← level_at (unary_at 64) 4 tokens
   if nat_le (tree_depth f.0) 64 then Some f else None
 
--- Whether a formula at this place ends before these tokens. It does unless they begin with `.` or with the sign of a chain that may stand at this
--- place. No other token can continue it.
+-- Whether each formula at this place is sure to end before these tokens: they don't begin with `.` or with the sign of a chain that may stand at this
+-- place. No other token can continue a formula.
 abbrev pub ends : ℕ → List Lexeme → Bool
 ends place (Lexeme.Mark Mark.Dot ∷ tokens) = false
 ends place (Lexeme.Mark Mark.And ∷ tokens) = nat_lt place 1

@@ -6,7 +6,7 @@ use Rattle.dd_minimal.proofs.filling.+fill.Given as goal
 abbrev pub decreases-fill : goal.decreases-fill
 decreases-fill l = length l.rest.now
 
--- the table has the entries for the symbols tried so far
+-- the list of symbols is the one at the start, and the table has the entries for the symbols tried so far
 abbrev pub invariant-loop-symbol : goal.invariant-loop-symbol
 invariant-loop-symbol l =
     (l.symbols ≡ l.initial.symbols) × (l.table ≡ l.initial.table ++
