@@ -1,25 +1,29 @@
 -- Writing a number, starting with its last digit.
-use Rattle.std.proofs.Common.{◌≡◌, ℕ, zero, suc, ◌+◌, ◌*◌, ◌/◌, ◌%◌, ◌^◌, ◌<◌, ◌≤◌, List, [], ◌∷◌, ◌++◌, length, drop, get_or, refl, append_assoc, add-one, drop-cons, arith}
+use Rattle.std.proofs.Common.{◌≡◌, ℕ, zero, suc, ◌+◌, ◌*◌, ◌/◌, ◌%◌, ◌^◌, ◌<◌, ◌≤◌, List, [], ◌∷◌, ◌++◌, set, length, drop, refl, ap, ◌∙◌, append_assoc, arith}
 use Rattle.std.proofs.{Math.Nat.pow-suc, lemmas.Fmt.decimal_digit, lemmas.Fmt.decimal_step}
 use Rattle.std.specs.Fmt.{decimal}
 
--- the last digit of the rest moves from the rest to the digits that are written
-pub digit_more : (n rest at : ℕ) (digits : List ℕ) → 10 ≤ rest → rest < 2 ^ 64 → at < length digits → get_or digits at 0 ≡ 48 + rest % 10
-    → decimal n ≡ decimal rest ++ drop (at + 1) digits → decimal n ≡ decimal (rest / 10) ++ drop at digits
-digit_more n rest at digits many fits within last whole =
-    let cell : drop at digits ≡ (48 + rest % 10) ∷ drop (at + 1) digits = rw (drop-cons digits at 0 within, add-one at, last) refl in
-    rw (whole, decimal_step rest many fits, cell) (append_assoc (decimal (rest / 10)) ((48 + rest % 10) ∷ []) (drop (at + 1) digits))
+-- the items from an index on, after the item at this index is set
+drop_set : (digits : List ℕ) (k digit : ℕ) → k < length digits → drop k (set digits k digit) ≡ digit ∷ drop (suc k) digits
+drop_set [] k digit h = absurd (omega (arith, h))
+drop_set (x ∷ digits) zero digit h = refl
+drop_set (x ∷ digits) (suc k) digit h = drop_set digits k digit (omega (arith, h))
 
--- when the rest has one digit, the digits from its place on are the whole number
-pub digit_first : (n rest at : ℕ) (digits : List ℕ) → rest < 10 → at < length digits → get_or digits at 0 ≡ 48 + rest % 10
-    → decimal n ≡ decimal rest ++ drop (at + 1) digits → drop at digits ≡ decimal n
-digit_first n rest at digits few within last whole =
-    let one : rest % 10 ≡ rest = omega arith in
-    rw (whole, decimal_digit rest few, drop-cons digits at 0 within, add-one at, last, one) refl
+-- the last digit of the rest moves from the rest to the digits that are written
+pub digit_more : (whole : List ℕ) (rest at k : ℕ) (digits : List ℕ) → 10 ≤ rest → rest < 2 ^ 64 → at ≡ suc k → k < length digits → whole ≡ decimal rest ++ drop at digits
+    → whole ≡ decimal (rest / 10) ++ drop k (set digits k (48 + rest % 10))
+digit_more whole rest at k digits many fits next within e =
+    rw (drop_set digits k (48 + rest % 10) within, ← next) (e ∙ ap (λ (xs : List ℕ). xs ++ drop at digits) (decimal_step rest many fits) ∙ append_assoc (decimal (rest / 10)) ((48 + rest % 10) ∷ []) (drop at digits))
+
+-- the first digit is written, when the rest has one digit
+pub digit_first : (whole : List ℕ) (rest at k : ℕ) (digits : List ℕ) → rest < 10 → at ≡ suc k → k < length digits → whole ≡ decimal rest ++ drop at digits
+    → drop k (set digits k (48 + rest)) ≡ whole
+digit_first whole rest at k digits few next within e =
+    rw (drop_set digits k (48 + rest) within, e, decimal_digit rest few, next) refl
 
 -- there is room for one more digit
-pub room_more : (rest at : ℕ) → 10 ≤ rest → rest < 10 ^ (at + 1) → (0 < at) × (rest / 10 < 10 ^ at)
-room_more rest zero many small = absurd (omega (arith, small))
-room_more rest (suc at) many small =
-    let small : rest < 10 ^ suc at * 10 = rw (← pow-suc 10 (suc at), ← add-one (suc at)) small in
+pub room_more : (rest at k : ℕ) → at ≡ suc k → 10 ≤ rest → rest < 10 ^ at → (0 < k) × (rest / 10 < 10 ^ k)
+room_more rest at zero next many small = absurd (omega (arith, rw next at small))
+room_more rest at (suc k) next many small =
+    let small : rest < 10 ^ suc k * 10 = rw (← pow-suc 10 (suc k), ← next) small in
     (omega arith, omega (arith, small))

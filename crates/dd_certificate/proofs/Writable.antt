@@ -1,6 +1,6 @@
 -- An output can hold the steps that refute a list of clauses, if variables, clauses and steps are few enough. The variables of the steps are in
--- range, and each clause that a step hints at or deletes comes before it. The list `known` holds the clauses before a step: clause number k + 1 at
--- index k, or `None` if it is deleted.
+-- range, and each clause that a step hints at or deletes comes before this step. The list `known` holds the clauses before a step: clause number
+-- k + 1 at index k, or `None` if this clause is deleted.
 use Rattle.std.proofs.Common.{◌≡◌, ℕ, zero, suc, ◌+◌, ◌<◌, ◌≤◌, Bool, true, false, not, ◌&&◌, ◌||◌, List, [], ◌∷◌, ◌++◌, length, map, Option, None, Some, is_some, slice_get, All, refl, sym, subst, ◌∙◌, ◌⊎◌, inl, inr, arith, nat_le, length-append}
 use Rattle.std.proofs.lemmas.Bool.{false≢true, leb-true, and_parts, or_cases}
 use Rattle.std.proofs.lemmas.List.{length-set, length-map, Elements.All-nil, Elements.All-cons}

@@ -21,7 +21,7 @@ IsWritableSigned z = unsigned_abs z ≤ most_number
 abbrev pub IsWritableDenominator : ℕ → Type 0
 IsWritableDenominator n = (1 ≤ n) × (n ≤ most_number)
 
--- a clause number, as a hint or a delete: clauses are numbered from 1
+-- the number of a clause that a step hints at or deletes; clauses are numbered from 1
 abbrev pub IsWritableHint : ℕ → Type 0
 IsWritableHint n = (1 ≤ n) × (n ≤ most_count)
 
@@ -46,7 +46,7 @@ IsWritableStarred p = IsWritableNumber p.node × All IsWritableSymbolOrStar p.sy
 abbrev pub IsWritableList : List ℕ → Type 0
 IsWritableList ns = (1 ≤ length ns) × All IsWritableNumber ns
 
--- with only one period the shear is 0
+-- with fewer than two periods, the shear is 0
 abbrev pub IsShearFor : List ℕ → ℕ → Type 0
 IsShearFor periods shear = (shear ≡ 0) ⊎ (2 ≤ length periods)
 

@@ -1,5 +1,6 @@
 -- The text of an answer. Its lines hold words, numbers, fractions and stars, with one space between them. Each line ends with a line feed. The first
--- line begins with the word `query` and the query's number. Below, the first line of one kind of answer, such as `No`, is described without them.
+-- line begins with the word `query` and the query's number. The definition of the first line of one kind of answer, such as `no_text`, leaves out
+-- this beginning.
 use Rattle.std.specs.Prelude.{ℕ, ℤ, List, [], ◌∷◌, ◌++◌, length, codes, ◌==◌, if◌then◌else◌, Option, Some, None}
 use Rattle.std.specs.{List.flat_map, Fmt.decimal, Fmt.signed_decimal}
 use Rattle.dd_clause.specs.declared.clause.Literal.{Literal}

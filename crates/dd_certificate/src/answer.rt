@@ -18,7 +18,8 @@ pub enum Side {
 pub enum Reason {
     /// The search found no definite answer within the script's limits.
     Limits,
-    /// The linear program of a discharging query, or a list of fillings that is made on the way to it, is too large.
+    /// The linear program of a discharging query, or a list of fillings that is made on the way to it, is too large. A filling
+    /// gives a symbol to each cell of a finite set.
     Large,
     /// A number became too large, in a step of the simplex method or in its result.
     Overflow,
@@ -26,8 +27,8 @@ pub enum Reason {
     Pivots,
 }
 
-/// A pattern in a `List` answer. A rule forbids it at a node. For each cell that the rule reads there, it has a symbol that the
-/// cell's node allows.
+/// A pattern in a `List` answer. A rule forbids it at a node. For each cell that the rule reads there, the pattern has a
+/// symbol that the cell's node allows.
 #[derive(Debug, Drop)]
 pub struct Listed {
     /// The node's number, from 0.
@@ -52,8 +53,8 @@ pub struct Starred {
 pub enum Answer {
     /// The configuration is in the subshift.
     Inside,
-    /// The rule is false at a cell of the configuration: the first cell of the fundamental box, the box that repeats, at which
-    /// it is false. Cells are taken in cell order.
+    /// The configuration breaks the rule. The answer gives a cell at which the rule is false: the first such cell, in cell
+    /// order, of the fundamental box (the box that repeats).
     Outside {
         /// The coordinates of the cell, one for each dimension, and then its node.
         place: Items<i64>,
@@ -65,8 +66,8 @@ pub enum Answer {
         /// Steps that refute the claim's negation on this box.
         steps: Items<Step>,
     },
-    /// The claim of an equality query holds in both directions. The first direction is that each configuration of the first
-    /// rule obeys the second rule. The second direction is the converse. Each has a refutation on a box of its own.
+    /// The claim of an equality query holds in both directions. The first direction is that each configuration that obeys the
+    /// first rule obeys the second rule. The second direction is the converse. Each has a refutation on a box of its own.
     YesBoth {
         /// The radius of the first box.
         left: u64,
@@ -91,7 +92,7 @@ pub enum Answer {
     Unknown {
         reason: Reason,
     },
-    /// The patterns with allowed symbols that the rule forbids, at all nodes.
+    /// For each node, the patterns with allowed symbols that the rule forbids there.
     List {
         patterns: Items<Listed>,
     },
@@ -117,8 +118,8 @@ pub enum Answer {
         denominator: u64,
         /// The common denominator of all amounts and duals.
         common: u64,
-        /// The numerators of the amounts that positions give, vector by vector, and for each vector pattern by pattern. What a
-        /// position gives along a vector depends on the pattern of symbols around the position.
+        /// The numerators of the amounts that positions give, vector by vector, and for each vector, pattern by pattern. What
+        /// a position gives along a vector depends on the pattern of symbols around the position.
         amounts: Items<u64>,
         /// The numerators of the duals: factors, one for each row of the query's linear program. They show that no amounts give
         /// a greater bound.
@@ -128,8 +129,8 @@ pub enum Answer {
     Minimal {
         patterns: Items<Starred>,
     },
-    /// The answer to each of the four questions of a conjugacy is yes. For automata f and g and subshifts X and Y, they are, in
-    /// order: does f map X into Y, does g map Y into X, does g undo f on X, and does f undo g on Y?
+    /// The answer to each of the four questions of a conjugacy is yes. For automata f and g and subshifts X and Y, the
+    /// questions are, in order: does f map X into Y, does g map Y into X, does g undo f on X, and does f undo g on Y?
     Conjugate {
         /// For each question, the radius of a box.
         radii: Items<u64>,

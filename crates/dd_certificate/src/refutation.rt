@@ -2,21 +2,21 @@
 //! the text of its answer, without a text of its own.
 ghost use Rattle.std.specs.Prelude.{◌≡◌, ◌++◌, OnOk};
 ghost use Rattle.std.specs.List.{flat_map};
-ghost use Rattle.dd_certificate.specs.Text.{literal_text, literals_to_zero, numbers_to_zero, refutation_text, step_text};
+ghost use Rattle.dd_certificate.specs.Text.{literals_to_zero, numbers_to_zero, refutation_text, spaced_literal, step_text};
 
-use crate::decimal::push_decimal;
+use crate::decimal::push_decimal_and;
 use dd_clause::Literal;
 use dd_derivation::Step;
 use std::alloc::AllocError;
 
-/// Appends the number of the literal's variable, with a minus sign before it if the literal is negative.
+/// Appends the number of the literal's variable, with a minus sign before it if the literal is negative, and then a space.
 fn push_literal(text: &mut Vec<u8>, literal: &Literal) -> Result<(), AllocError>
-    ensures { OnOk result (text.new.items ≡ text.old.items ++ literal_text literal.now) }
+    ensures { OnOk result (text.new.items ≡ text.old.items ++ spaced_literal literal.now) }
 {
     if !literal.positive {
         text.push(b'-')?;
     }
-    push_decimal(text, u64::from(literal.variable))
+    push_decimal_and(text, u64::from(literal.variable), b' ')
 }
 
 /// Appends literals, each with a space after it. Then appends the 0 that ends them, and a space.
@@ -25,7 +25,6 @@ fn push_literals(text: &mut Vec<u8>, literals: &[Literal]) -> Result<(), AllocEr
 {
     for literal in literals {
         push_literal(text, literal)?;
-        text.push(b' ')?;
     }
     text.extend_from_slice(b"0 ")
 }
@@ -35,8 +34,7 @@ fn push_clause_numbers(text: &mut Vec<u8>, numbers: &[u64], next: u8) -> Result<
     ensures { OnOk result (text.new.items ≡ text.old.items ++ numbers_to_zero next numbers.now) }
 {
     for number in numbers {
-        push_decimal(text, *number)?;
-        text.push(b' ')?;
+        push_decimal_and(text, *number, b' ')?;
     }
     text.extend_from_slice(&[b'0', next])
 }
@@ -66,7 +64,6 @@ pub(crate) fn push_refutation(text: &mut Vec<u8>, steps: &[Step]) -> Result<(), 
     ensures { OnOk result (text.new.items ≡ text.old.items ++ refutation_text steps.now) }
 {
     text.extend_from_slice(b"refutation ")?;
-    push_decimal(text, steps.len() as u64)?;
-    text.push(b'\n')?;
+    push_decimal_and(text, steps.len() as u64, b'\n')?;
     push_steps(text, steps)
 }

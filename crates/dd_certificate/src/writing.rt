@@ -1,5 +1,6 @@
 //! The text of an answer, appended from left to right to one growing text. An answer's first line begins with the word `query`
-//! and the query's number. A function that appends the first line of one kind of answer, such as `Outside`, leaves them out.
+//! and the query's number. A function that appends the first line of one kind of answer, such as `push_outside`, leaves out
+//! this beginning.
 ghost use Rattle.std.specs.Prelude.{◌≡◌, ◌++◌, codes, length, OnOk, IfOk};
 ghost use Rattle.std.specs.List.{flat_map};
 ghost use Rattle.dd_certificate.specs.Text.{

@@ -5,7 +5,7 @@ use Rattle.std.proofs.lemmas.List.{take_more, map-append, append_assoc, append-n
 use Rattle.std.proofs.lemmas.Option.{slice_get_read}
 use Rattle.dd_clause.specs.declared.clause.Literal.{Literal}
 use Rattle.dd_derivation.specs.declared.step.Step.{Step}
-use Rattle.dd_derivation.specs.Derivations.{is_empty, is_right, known_after, known_after_steps, refutes_from, clauses_before, is_step_right}
+use Rattle.dd_derivation.specs.Derivations.{is_empty, is_right, known_after, known_after_steps, refutes_from, derives_from, clauses_before, is_step_right}
 use Rattle.dd_derivation.specs.{checking.MarksOf.known_of, lemmas.Numbers.length-before, lemmas.Falses.is_last-drop}
 use Rattle.dd_values.specs.lemmas.Booleans.{or_false}
 
@@ -16,19 +16,19 @@ all_alive (c ∷ cs) (x ∷ alive) l a =
     let h : x ≡ true = a 0 (omega arith) in
     rw (h, all_alive cs alive (omega arith) (λ k b. a (suc k) (omega arith))) refl
 
-pub known_of-snoc : (cs : List (List Literal)) (c : List Literal) (alive : List Bool) → length cs < length alive → get_or alive (length cs) false ≡ true → known_of (cs ++ c ∷ []) alive ≡ known_of cs alive ++ Some c ∷ []
+known_of-snoc : (cs : List (List Literal)) (c : List Literal) (alive : List Bool) → length cs < length alive → get_or alive (length cs) false ≡ true → known_of (cs ++ c ∷ []) alive ≡ known_of cs alive ++ Some c ∷ []
 known_of-snoc [] c [] l a = absurd (omega arith)
 known_of-snoc [] c (x ∷ alive) l a = rw a refl
 known_of-snoc (y ∷ cs) c [] l a = absurd (omega arith)
 known_of-snoc (y ∷ cs) c (x ∷ alive) l a = ap (λ (ys : List (Option (List Literal))). cond x (Some y) None ∷ ys) (known_of-snoc cs c alive (omega arith) a)
 
-pub before_more : (clauses : List (List Literal)) (steps : List Step) (i : ℕ) (d : Step) → i < length steps → clauses_before clauses (take (i + 1) steps) ≡ clauses_before clauses (take i steps) ++ (get_or steps i d).clause ∷ []
+before_more : (clauses : List (List Literal)) (steps : List Step) (i : ℕ) (d : Step) → i < length steps → clauses_before clauses (take (i + 1) steps) ≡ clauses_before clauses (take i steps) ++ (get_or steps i d).clause ∷ []
 before_more clauses steps i d h =
     ap (λ (xs : List Step). clauses_before clauses xs) (take_more steps i d h)
     ∙ ap (λ (ys : List (List Literal)). clauses ++ ys) (map-append (λ x. x.clause) (take i steps) (get_or steps i d ∷ []))
     ∙ sym (append_assoc clauses (map (λ x. x.clause) (take i steps)) ((get_or steps i d).clause ∷ []))
 
-pub refutes_at : (n : ℕ) (known : List (Option (List Literal))) (steps : List Step) (i : ℕ) (d : Step) → i < length steps → refutes_from n known (drop i steps) ≡ (is_right n known (get_or steps i d) && ((eqb (i + 1) (length steps) && is_empty (get_or steps i d).clause) || refutes_from n (known_after known (get_or steps i d).deletes ++ Some (get_or steps i d).clause ∷ []) (drop (i + 1) steps)))
+refutes_at : (n : ℕ) (known : List (Option (List Literal))) (steps : List Step) (i : ℕ) (d : Step) → i < length steps → refutes_from n known (drop i steps) ≡ (is_right n known (get_or steps i d) && ((eqb (i + 1) (length steps) && is_empty (get_or steps i d).clause) || refutes_from n (known_after known (get_or steps i d).deletes ++ Some (get_or steps i d).clause ∷ []) (drop (i + 1) steps)))
 refutes_at n known steps i d h = rw (drop-cons steps i d h, add-one i, is_last-drop steps (suc i) (omega arith)) refl
 
 pub before_none : (clauses : List (List Literal)) → clauses_before clauses [] ≡ clauses
@@ -45,6 +45,22 @@ last_step n known steps i s h g l r =
 
 pub more_step : (n : ℕ) (known : List (Option (List Literal))) (steps : List Step) (i : ℕ) (s : Step) → i < length steps → s ≡ get_or steps i s → (i + 1 ≡ length steps → ⊥) → is_right n known s ≡ true → refutes_from n known (drop i steps) ≡ refutes_from n (known_after known s.deletes ++ Some s.clause ∷ []) (drop (i + 1) steps)
 more_step n known steps i s h g l r = refutes_at n known steps i s h ∙ rw (← g, r, ne_eqb (i + 1) (length steps) l) refl
+
+-- the clauses that are known after one more right step, whose clause is alive
+pub known_next : (clauses : List (List Literal)) (steps : List Step) (i : ℕ) (s : Step) (before after : List Bool) → i < length steps → s ≡ get_or steps i s → length clauses + length steps ≤ length after → get_or after (length clauses + i) false ≡ true → known_of (clauses_before clauses (take i steps)) after ≡ known_after (known_of (clauses_before clauses (take i steps)) before) s.deletes → known_of (clauses_before clauses (take (i + 1) steps)) after ≡ known_after (known_of (clauses_before clauses (take i steps)) before) s.deletes ++ Some s.clause ∷ []
+known_next clauses steps i s before after lt g room here k =
+    let cs = clauses_before clauses (take i steps) in
+    let n : length cs ≡ length clauses + i = omega (arith, length-before clauses (take i steps), length-take i steps) in
+    let b : clauses_before clauses (take (i + 1) steps) ≡ cs ++ s.clause ∷ [] = before_more clauses steps i s lt ∙ ap (λ (x : Step). cs ++ x.clause ∷ []) (sym g) in
+    rw b (known_of-snoc cs s.clause after (omega arith) (rw n here) ∙ ap (λ (ys : List (Option (List Literal))). ys ++ Some s.clause ∷ []) k)
+
+derives_at : (n : ℕ) (known : List (Option (List Literal))) (steps : List Step) (i : ℕ) (s : Step) → i < length steps → s ≡ get_or steps i s → derives_from n known (drop i steps) ≡ ((is_empty s.deletes && is_right n known s) && derives_from n (known ++ Some s.clause ∷ []) (drop (i + 1) steps))
+derives_at n known steps i s h g = rw (drop-cons steps i s h, add-one i, ← g) refl
+
+-- one more right step that deletes nothing
+pub derives_next : (n : ℕ) (known : List (Option (List Literal))) (steps : List Step) (i : ℕ) (s : Step) → i < length steps → s ≡ get_or steps i s → s.deletes ≡ [] → is_right n known s ≡ true → derives_from n known (drop i steps) ≡ derives_from n (known_after known s.deletes ++ Some s.clause ∷ []) (drop (i + 1) steps)
+derives_next n known steps i s h g e r =
+    derives_at n known steps i s h g ∙ rw (r, e) refl
 
 -- Let `all` say that each clause is alive, and `alive` which ones are left after the deletions of earlier steps. Given the clauses that are left,
 -- `is_right` says the same of the step at this index as `is_step_right`.

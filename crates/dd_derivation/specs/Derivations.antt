@@ -102,6 +102,17 @@ refutes n clauses steps = refutes_from n (map (λ c. Some c) clauses) steps
 abbrev pub IsRefuting : ClauseList → List Step → Type 0
 IsRefuting cnf steps = refutes cnf.variables cnf.clauses steps ≡ true
 
+-- Each step is right, and none deletes clauses. `known` holds the clauses that are known before the first step. After a step, its own clause is
+-- known too.
+abbrev pub derives_from : ℕ → List (Option (List Literal)) → List Step → Bool
+derives_from n known [] = true
+derives_from n known (s ∷ steps) =
+    (is_empty s.deletes && is_right n known s) && derives_from n (known ++ Some s.clause ∷ []) steps
+
+-- the steps derive their clauses from these clauses over the variables 1..n
+abbrev pub derives : ℕ → List (List Literal) → List Step → Bool
+derives n clauses steps = derives_from n (map (λ c. Some c) clauses) steps
+
 -- the clauses of the list, followed by those of the steps
 abbrev pub clauses_before : List (List Literal) → List Step → List (List Literal)
 clauses_before clauses steps = clauses ++ map (λ s. s.clause) steps

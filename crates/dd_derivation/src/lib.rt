@@ -18,5 +18,5 @@ mod step;
 
 pub use known::{Known, delete_named};
 pub use propagation::{FalseLiterals, Finding, find};
-pub use refutation::{Marks, check_refutation, check_step, last_number};
+pub use refutation::{Marks, check_derivation, check_refutation, check_step, last_number};
 pub use step::{Outcome, Step};

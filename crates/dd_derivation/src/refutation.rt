@@ -1,7 +1,7 @@
-//! The check of a refutation (there is at least one step, each step is right, and the last step's clause is empty), and the
-//! check of a single step. Both allocate nothing. They work in `Marks`, which are made beforehand and may be used for several
-//! checks.
-ghost use Rattle.std.specs.Prelude.{◌≡◌, ℕ, ◌+◌, ◌<◌, ◌≤◌, Bool, true, false, List, length, slice_index_or, IfOk, ◌-◌, ◌^◌};
+//! The check of a refutation (there is at least one step, each step is right, and the last step's clause is empty), of a
+//! derivation (each step is right, and none deletes clauses), and of a single step. These checks allocate nothing. They work in
+//! `Marks`, which are made beforehand and may be used for several checks.
+ghost use Rattle.std.specs.Prelude.{◌≡◌, ℕ, ◌+◌, ◌<◌, ◌≤◌, Bool, true, false, List, length, map, slice_index_or, IfOk, ◌-◌, ◌^◌};
 ghost use Rattle.dd_clause.specs.declared.clause.Literal.{Literal};
 ghost use Rattle.dd_clause.specs.Clauses.{Satisfies};
 ghost use Rattle.dd_derivation.specs.Derivations as spec;
@@ -161,6 +161,64 @@ pub fn check_refutation(cnf: &Cnf, steps: &[Step], marks: &mut Marks) -> bool
     ensures same { marks.new ≡ marks.old }
 {
     check_with(
+        cnf,
+        steps,
+        marks.alive.as_mut_slice(),
+        marks.variables.as_mut_slice(),
+    )
+}
+
+/// Whether each step is right and none deletes clauses. Before the call, the marks must be cleared and all clauses alive.
+fn check_each(
+    clauses: &[Clause],
+    steps: &[Step],
+    alive: &mut [bool],
+    marks: &mut [VariableMark],
+) -> bool
+    requires room { length alive.old ≡ length clauses.now + length steps.now }
+    requires alive { (k : ℕ) → k < length alive.old → slice_index_or alive.old k false ≡ true }
+    requires older { AreBelow 1 marks.old }
+    ensures { result ≡ spec.derives (length marks.old) clauses.now steps.now }
+{
+    for (i, step) in steps.iter().enumerate() {
+        if !step.deletes.is_empty() {
+            return false;
+        }
+        if !check_one(clauses, &steps[..i], alive, marks, i as u64 + 1, step) {
+            return false;
+        }
+    }
+    true
+}
+
+/// Whether each step is right and none deletes clauses. What `alive` and `marks` hold before the call does not matter.
+fn check_each_with(
+    cnf: &Cnf,
+    steps: &[Step],
+    alive: &mut [bool],
+    marks: &mut [VariableMark],
+) -> bool
+    requires variables { length marks.old ≡ cnf.now.variables }
+    requires numbers { length alive.old ≡ length cnf.now.clauses + length steps.now }
+    ensures { result ≡ spec.derives cnf.now.variables cnf.now.clauses steps.now }
+{
+    clear(marks);
+    revive(alive);
+    check_each(cnf.clauses(), steps, alive, marks)
+}
+
+/// Whether the steps are a derivation: each step is right, and none deletes clauses. Then each assignment that satisfies the
+/// clauses also satisfies the clauses of the steps. There may be no steps. `marks`, the memory and the time are as for
+/// `check_refutation`.
+pub fn check_derivation(cnf: &Cnf, steps: &[Step], marks: &mut Marks) -> bool
+    requires variables { marks.old.variables ≡ cnf.now.variables }
+    requires numbers { marks.old.numbers ≡ length cnf.now.clauses + length steps.now }
+    ensures exact { result ≡ spec.derives cnf.now.variables cnf.now.clauses steps.now }
+    ensures sound { result ≡ true → (set : ℕ → Bool) → Satisfies set cnf.now.clauses →
+        Satisfies set (map (λ s. s.clause) steps.now) }
+    ensures same { marks.new ≡ marks.old }
+{
+    check_each_with(
         cnf,
         steps,
         marks.alive.as_mut_slice(),

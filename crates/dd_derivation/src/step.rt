@@ -18,7 +18,7 @@ pub struct Step {
     /// clause are false. The forced literal is made true. At the end, all literals of the last hinted clause are false.
     pub hints: Items<u64>,
     /// The numbers of the clauses that this step deletes. Each of these clauses must be alive, and must be named only once. No
-    /// later step may use it as a hint.
+    /// later step may use any of them as a hint.
     pub deletes: Items<u64>,
 }
 

@@ -1,13 +1,13 @@
 //! The elimination of variables by resolution. To eliminate a variable, the clauses that have it or its negation are replaced
 //! by all their resolvents on it (Davis and Putnam 1960), except those that hold a literal and its negation. This is done only
 //! if it leaves no more clauses than before. Each clause, old or new, has a turn. If it is still in the list then, it is
-//! compared with the other clauses there: one that contains all its literals is removed, and a literal that it makes redundant
-//! is dropped (Eén and Biere 2005). The comparisons end when a limit on their work is reached. Each new clause is the clause of
-//! a step. The step's hints are the numbers of the two clauses that the new clause comes from. (See the file `resolution.rt`
-//! for resolvents.)
+//! compared with the other clauses of the list: those that contain all its literals are removed, and a literal of another
+//! clause that it makes redundant is dropped (Eén and Biere 2005). Comparisons and eliminations end when a limit on their work
+//! is reached. Each new clause is the clause of a step. The step's hints are the numbers of the two clauses that the new
+//! clause comes from. (See the file `resolution.rt` for resolvents.)
 //!
-//! No contract depends on what is done here, since the answer for the whole list is checked. No invariant says that the indices
-//! kept here are within their lists. So the code tests them. The tests never fail.
+//! No contract depends on what is done here, since the steps, the remaining clauses and the assignment for the whole list are
+//! checked. No invariant says that the indices kept here are within their lists. So the code tests them. The tests never fail.
 use crate::resolution::{Relation, distinct, relate, resolvent, resolvent_length, without};
 use dd_clause::{Clause, Cnf, Literal};
 use dd_derivation::Step;
@@ -75,7 +75,7 @@ struct Sides {
 pub(crate) struct Elimination {
     variables: u32,
     /// How many clauses the list had.
-    pub count: u64,
+    count: u64,
     pub entries: Vec<Entry>,
     /// For each variable, by its number, the indices of the entries that have it or its negation. Some may not be alive.
     occurrences: Vec<Vec<usize>>,

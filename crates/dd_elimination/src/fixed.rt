@@ -160,7 +160,7 @@ impl Fixed {
         }
         let mut refutation: Vec<Step> = Vec::with_capacity(alloc, steps.len())?;
         for step in steps.into_vec() {
-            let step = renumbered_step(numbers.as_slice(), whole.len() as u64, step);
+            let step = renumbered_step(alloc, numbers.as_slice(), whole.len() as u64, step);
             let hints = self.more_hints(alloc, whole, step.hints.as_slice())?;
             refutation.push(Step { hints, ..step })?;
         }
@@ -212,7 +212,7 @@ impl Fixed {
         let mut derived = Derived::new(alloc, whole, self)?;
         derived.push_units(alloc, needed.as_slice())?;
         derived.push_shortened(alloc, remaining, hinted.as_slice())?;
-        derived.into_refutation(steps)
+        derived.into_refutation(alloc, steps)
     }
 
     /// For each fixed variable that is marked, also marks the variables of the clause that forces its value, and so on.
@@ -358,11 +358,11 @@ impl<'a> Derived<'a> {
     }
 
     /// Adds the steps of the search.
-    fn into_refutation(self, steps: Items<Step>) -> Result<Items<Step>, AllocError> {
+    fn into_refutation(self, alloc: Global, steps: Items<Step>) -> Result<Items<Step>, AllocError> {
         let before = (self.whole.len() as u64).saturating_add(self.steps.len() as u64);
         let mut refutation = self.steps;
         for step in steps.into_vec() {
-            refutation.push(renumbered_step(self.numbers.as_slice(), before, step))?;
+            refutation.push(renumbered_step(alloc, self.numbers.as_slice(), before, step))?;
         }
         Ok(Items::from_vec(refutation))
     }

@@ -7,12 +7,15 @@
 //! is an assignment that satisfies it, or a refutation: a list of steps. Each step has a clause that follows from clauses
 //! before it, and hints: the numbers of the clauses that show this. First the clauses of the list are numbered, from 1, and
 //! then the steps. The last step's clause is empty. A step may also delete clauses, which no later step may use. The search
-//! gives an answer for the reduced list. An answer for the whole list is made from it and checked.
+//! gives an answer for the reduced list. An answer for the whole list is made from it, and tested: an assignment on the whole
+//! list, and a refutation step by step. If the answer is a refutation after an elimination by resolution, only this
+//! elimination is tested.
 #![tactic(auto, using(std::proofs::lemmas::Grind::common_steps))]
 
 mod elimination;
 mod fixed;
 mod propagation;
+mod reduction;
 mod resolution;
 mod search;
 mod whole;

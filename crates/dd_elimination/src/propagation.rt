@@ -181,8 +181,8 @@ impl<'a> Propagation<'a> {
         Ok(true)
     }
 
-    /// Looks at a clause that has at most one literal without a value. If it has one, and all its other literals are false,
-    /// makes this one true. Returns false if all its literals are false.
+    /// Looks at a clause that has at most one literal without a value. If it has such a literal, and all its other literals
+    /// are false, makes this literal true. Returns false if all its literals are false.
     fn look_at(&mut self, index: usize) -> Result<bool, AllocError> {
         let Some(clause) = self.clauses.get(index) else {
             return Ok(true);

@@ -1,10 +1,14 @@
 //! The search on the clauses that remain after the elimination of variables. From its result an answer for the whole list is
-//! made, and this answer is checked. If it were wrong, the whole list would be searched.
-ghost use Rattle.std.specs.Prelude.{IfOk, IfSome, ◌↔◌};
+//! made, and tested. If it is a refutation after an elimination by resolution, only this elimination is tested (see the file
+//! `reduction.rt`). If a test failed, the whole list would be searched, but this never happens.
+ghost use Rattle.std.specs.Prelude.{◌≡◌, ◌↔◌, true, IfOk, IfSome};
+ghost use Rattle.dd_derivation.specs.Derivations.{refutes};
 ghost use Rattle.dd_solver.specs.Answers.{IsAnswer, IsFound, IsRefuted, IsSatisfiable};
 
 use crate::elimination::Elimination;
 use crate::propagation::Fixed;
+use crate::reduction::is_reduction;
+use crate::whole::Reduced;
 use dd_clause::{Assignment, Cnf, satisfies};
 use dd_derivation::{Marks, Outcome, Step, check_refutation};
 use dd_solver::{Style, solve, solve_with, trimmed};
@@ -31,7 +35,7 @@ pub fn solve_propagated(alloc: Global, cnf: &Cnf, style: Style) -> Result<Outcom
 
 /// Finds an assignment that satisfies the clauses, or steps that refute them. Variables are eliminated by resolution first,
 /// unless there are more than 200,000 clauses, or the squares of their lengths add up to 100,000,000 or more. On clauses that
-/// ask for a weight below a bound, this is faster than `solve` of `dd_solver`.
+/// ask for a configuration whose weight is below a bound, this is faster than `solve` of `dd_solver`.
 ///
 /// # Errors
 /// `AllocError` if memory ran out.
@@ -88,7 +92,7 @@ fn reduced_answer(alloc: Global, cnf: &Cnf) -> Result<Outcome, AllocError>
 }
 
 /// Searches the reduced list, and makes an answer for the whole list from the result. `None` if the clauses are too long (see
-/// `Elimination::of`). It would also be `None` if the answer were wrong, but this never happens.
+/// `Elimination::of`). It would also be `None` if the elimination or the assignment were wrong, but this never happens.
 fn find_reduced(alloc: Global, cnf: &Cnf) -> Result<Option<Outcome>, AllocError>
     ensures { IfOk result (λ found. IfSome found (IsAnswer cnf.now.variables cnf.now.clauses)) }
 {
@@ -102,10 +106,29 @@ fn find_reduced(alloc: Global, cnf: &Cnf) -> Result<Option<Outcome>, AllocError>
         Outcome::Found(assignment) => Ok(confirmed(cnf, elimination.extended(alloc, &assignment)?)),
         Outcome::Refuted(steps) => {
             let used = trimmed(alloc, &reduced.cnf, steps)?;
-            let whole = elimination.into_refutation(reduced.numbers.as_slice(), used)?;
-            confirmed_refutation(alloc, cnf, whole)
+            whole_refutation(alloc, cnf, elimination, &reduced, used)
         }
     }
+}
+
+/// The answer for the whole list, from steps that refute the reduced list. `None` if the elimination is wrong (see
+/// `is_reduction`), which never happens.
+fn whole_refutation(
+    alloc: Global,
+    cnf: &Cnf,
+    elimination: Elimination,
+    reduced: &Reduced,
+    steps: Items<Step>,
+) -> Result<Option<Outcome>, AllocError>
+    requires variables { reduced.now.cnf.variables ≡ cnf.now.variables }
+    requires refutes { refutes reduced.now.cnf.variables reduced.now.cnf.clauses steps ≡ true }
+    ensures { IfOk result (λ found. IfSome found (IsAnswer cnf.now.variables cnf.now.clauses)) }
+{
+    if !is_reduction(alloc, cnf, elimination.steps.as_slice(), reduced)? {
+        return Ok(None);
+    }
+    let whole = elimination.into_refutation(alloc, cnf, reduced.numbers.as_slice(), steps)?;
+    Ok(Some(Outcome::Refuted(whole)))
 }
 
 /// The answer that an assignment gives. `None` if it doesn't satisfy the clauses.

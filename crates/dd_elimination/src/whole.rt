@@ -1,5 +1,9 @@
 //! The reduced list after the elimination by resolution, and the way back: from an answer for it to an answer for the whole
 //! list.
+ghost use Rattle.std.specs.Prelude.{◌≡◌, ◌+◌, ◌<◌, ◌^◌, ◌++◌, length, map, IfOk, IfSome};
+ghost use Rattle.dd_solver.specs.searching.Marking.{kept_step};
+ghost use Rattle.dd_elimination.specs.Reductions.{whole_number};
+
 use crate::elimination::{Eliminated, Elimination};
 use dd_clause::{Assignment, Clause, Cnf, Literal};
 use dd_derivation::Step;
@@ -30,44 +34,50 @@ fn has_other_true(literals: &[Literal], variable: u32, values: &[bool]) -> bool 
     false
 }
 
-/// Replaces numbers in a refutation of the reduced list by those in the refutation of the whole list. `numbers` has the new
-/// number of each clause of the reduced list. `before` says how many clauses and steps come before the steps of the search in
-/// the refutation of the whole list.
-fn renumbered(numbers: &[u64], before: u64, old: Items<u64>) -> Items<u64> {
+/// The number that a clause gets in the refutation of the whole list. `number` is its number in the refutation of the reduced
+/// list. `numbers` has the new number of each clause of the reduced list. The clauses of the steps get the numbers after
+/// `before`.
+fn new_number(numbers: &[u64], before: u64, number: u64) -> u64
+    ensures { result ≡ whole_number numbers.now before number }
+{
     let count = numbers.len() as u64;
-    let mut renumbered = old.into_vec();
-    for entry in renumbered.iter_mut() {
-        let number = *entry;
-        if number > count {
-            *entry = before.saturating_add(number - count);
-        } else if number >= 1 {
-            *entry = numbers[number as usize - 1];
-        }
+    if number > count {
+        return before.saturating_add(number - count);
     }
-    Items::from_vec(renumbered)
+    if number >= 1 {
+        return numbers[number as usize - 1];
+    }
+    number
 }
 
-/// Replaces the hints of a step, and the numbers of the clauses that it deletes, as in `renumbered`.
-pub(crate) fn renumbered_step(numbers: &[u64], before: u64, step: Step) -> Step {
-    let Step {
-        clause,
-        hints,
-        deletes,
-    } = step;
+/// Replaces each hint by its new number (see `new_number`).
+fn renumber(numbers: &[u64], before: u64, hints: &mut [u64])
+    ensures { hints.new ≡ map (whole_number numbers.now before) hints.old }
+{
+    for hint in hints.iter_mut() {
+        *hint = new_number(numbers, before, *hint);
+    }
+}
+
+/// The step with new numbers in its hints (see `new_number`). Like the steps of a trimmed refutation, it deletes nothing.
+pub(crate) fn renumbered_step(alloc: Global, numbers: &[u64], before: u64, step: Step) -> Step
+    ensures { result ≡ kept_step (whole_number numbers.now before) step }
+{
+    let Step { clause, hints, .. } = step;
+    let mut hints = hints.into_vec();
+    renumber(numbers, before, hints.as_mut_slice());
     Step {
         clause,
-        hints: renumbered(numbers, before, hints),
-        deletes: renumbered(numbers, before, deletes),
+        hints: Items::from_vec(hints),
+        deletes: Items::new(alloc),
     }
 }
 
 impl Elimination {
     /// The remaining clauses. `None` if one has a variable that isn't in the list, which never happens.
-    pub(crate) fn reduced(
-        &self,
-        alloc: Global,
-        whole: &Cnf,
-    ) -> Result<Option<Reduced>, AllocError> {
+    pub(crate) fn reduced(&self, alloc: Global, whole: &Cnf) -> Result<Option<Reduced>, AllocError>
+        ensures { IfOk result (λ found. IfSome found (λ reduced. reduced.cnf.variables ≡ whole.now.variables)) }
+    {
         let mut cnf = Cnf::new(alloc, whole.variables());
         let mut numbers: Vec<u64> = Vec::new(alloc);
         for entry in self.entries.as_slice() {
@@ -113,18 +123,25 @@ impl Elimination {
         false
     }
 
-    /// The steps of the elimination, and after them those of the search. Together they refute the whole list, if the steps of
-    /// the search refute the reduced list.
+    /// The steps of the elimination, and after them those of the search, which get new numbers in their hints. If the
+    /// elimination is right and the steps of the search refute the reduced list, all these steps refute the whole list.
+    /// `numbers` has the number of each clause of the reduced list (see `Reduced`).
     pub(crate) fn into_refutation(
         self,
+        alloc: Global,
+        whole: &Cnf,
         numbers: &[u64],
         steps: Items<Step>,
-    ) -> Result<Items<Step>, AllocError> {
-        let before = self.count.saturating_add(self.steps.len() as u64);
-        let mut whole = self.steps;
+    ) -> Result<Items<Step>, AllocError>
+        ensures all { let before = length whole.now.clauses + length self.steps.items in
+            IfOk result (λ all. all ≡ self.steps.items ++ map (kept_step (whole_number numbers.now before)) steps) }
+        ensures few { IfOk result (λ all. length whole.now.clauses + length all < 2 ^ 64) }
+    {
+        let before = whole.clauses().len() as u64 + self.steps.len() as u64;
+        let mut all = self.steps;
         for step in steps.into_vec() {
-            whole.push(renumbered_step(numbers, before, step))?;
+            all.push(renumbered_step(alloc, numbers, before, step))?;
         }
-        Ok(Items::from_vec(whole))
+        Ok(Items::from_vec(all))
     }
 }

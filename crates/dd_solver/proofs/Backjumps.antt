@@ -9,7 +9,7 @@ use Rattle.dd_trail.specs.{declared.trail.Entry.Entry, Trails.falses, lemmas.Tra
 use Rattle.dd_solver.specs.{declared.analysis.Backjump.Backjump, declared.analysis.Choice.TheVariants.Keep}
 use Rattle.dd_trail.specs.{Reasons.IsTrail, lemmas.Reasons.apart}
 use Rattle.dd_solver.specs.searching.Analysis.{marks, ChoiceSays, Asserts}
-use Rattle.dd_solver.proofs.{Forcing.in_left, Forcing.in_cases, Forcing.in_one}
+use Rattle.dd_solver.specs.lemmas.Forcing.{in_left, in_cases, in_one}
 use Rattle.dd_trail.specs.lemmas.Forcing.{forced_from}
 
 -- The backjump's place is that of a decision. The backjump's literal is learned, and is the negated literal of an entry at this place or later. The

@@ -1,7 +1,7 @@
 -- Each learned step is right, given the steps before it, and later steps may use its clause as a hint. After it the trail is still right, and the
 -- variables of the known clauses are still in range. If the last step's clause is empty, the steps refute the clauses.
-use Rattle.std.proofs.Common.{◌≡◌, ℕ, suc, ◌+◌, Bool, true, ◌&&◌, List, [], ◌∷◌, ◌++◌, Option, Some, None, refl, ◌∙◌, subst, length, get_or, take, inl, inr, arith}
-use Rattle.std.proofs.lemmas.{Bool.and_parts, Bool.and_from, Bool.or_right, Bool.leb-true, List.length-append}
+use Rattle.std.proofs.Common.{◌≡◌, ℕ, suc, Bool, true, ◌&&◌, List, [], ◌∷◌, ◌++◌, Option, Some, None, refl, ◌∙◌, subst, length, get_or, take, inl, inr}
+use Rattle.std.proofs.lemmas.{Bool.and_parts, Bool.and_from, Bool.or_right, Bool.leb-true}
 use Rattle.std.proofs.lemmas.List.Elements.{All-cons, All-nil}
 use Rattle.dd_clause.specs.{declared.clause.Literal.Literal, Clauses.IsLiteralInRange, Clauses.IsClauseInRange}
 use Rattle.dd_derivation.specs.declared.{propagation.Finding.TheVariants.Forced, step.Step.Step}
@@ -11,15 +11,7 @@ use Rattle.dd_trail.specs.Reasons.{AreInRange, Follows, IsTrail}
 use Rattle.dd_solver.specs.searching.{Analysis.is_rightly_learned, Deleting.MayDelete}
 use Rattle.dd_solver.specs.searching.Search.{after_step, known_through, is_derived}
 use Rattle.dd_trail.specs.lemmas.Reasons.{hint_clause, at_clause}
-use Rattle.dd_solver.proofs.Numbers.{Known, known_push, known_left, known_last, known_before, length-after}
-
-pub through_more : (before : Known) (steps : List Step) (s : Step) → known_through before (steps ++ s ∷ []) ≡ after_step (known_through before steps) s
-through_more before [] s = refl
-through_more before (x ∷ steps) s = through_more (after_step before x) steps s
-
-pub length-through : (before : Known) (steps : List Step) → length (known_through before steps) ≡ length before + length steps
-length-through before [] = omega arith
-length-through before (x ∷ steps) = length-through (after_step before x) steps ∙ omega (arith, length-after before x.deletes, length-append (known_after before x.deletes) (Some x.clause ∷ []))
+use Rattle.dd_solver.specs.lemmas.Known.{Known, known_push, known_left, known_last, known_before}
 
 -- a trail stays right after a step, because the step keeps the clauses that forced the entries
 pub trail_after : (n : ℕ) (known : Known) (first : ℕ) (trail : List Entry) (s : Step) → IsTrail n known trail → MayDelete known first trail s.deletes → IsTrail n (after_step known s) trail
@@ -55,13 +47,6 @@ pub right_from : (n : ℕ) (known : Known) (s : Step) → is_rightly_learned n k
 right_from n known s r d =
     let q = and_parts (is_proper n s.clause) (is_conflict known s.clause s.hints) r in
     rw (q.0, q.1, d) refl
-
--- with one more right step, all learned steps are still right
-pub derived_more : (n : ℕ) (before : Known) (steps : List Step) (s : Step) → is_derived n before steps ≡ true → is_right n (known_through before steps) s ≡ true → is_derived n before (steps ++ s ∷ []) ≡ true
-derived_more n before [] s h r = rw r refl
-derived_more n before (x ∷ steps) s h r =
-    let q = and_parts (is_right n before x) (is_derived n (after_step before x) steps) h in
-    and_from _ _ q.0 (derived_more n (after_step before x) steps s q.1 r)
 
 -- if all steps are right and the last step's clause is empty, the steps refute the clauses
 pub refutes_last : (n : ℕ) (before : Known) (steps : List Step) (s : Step) → is_derived n before steps ≡ true → is_right n (known_through before steps) s ≡ true → s.clause ≡ [] → refutes_from n before (steps ++ s ∷ []) ≡ true

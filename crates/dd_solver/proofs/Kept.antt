@@ -1,42 +1,16 @@
 -- The marked steps of a refutation are a refutation too. A hint of a marked step names a clause of the list or of a marked step. So this clause is
 -- known under its new number where the hint is used. Each marked step but the last is used, and none deletes a clause.
-use Rattle.std.proofs.Common.{◌≡◌, ℕ, suc, ◌<◌, ◌≤◌, Bool, true, false, cond, ◌&&◌, ◌||◌, List, [], ◌∷◌, ◌++◌, map, Option, Some, None, refl, ap, sym, ◌∙◌, subst, length, inl, inr, ◌⊎◌, arith}
+use Rattle.std.proofs.Common.{◌≡◌, ℕ, suc, ◌<◌, ◌≤◌, Bool, true, false, cond, ◌&&◌, ◌||◌, List, [], ◌∷◌, ◌++◌, map, Some, refl, ap, sym, ◌∙◌, subst, length, inl, inr, ◌⊎◌, arith}
 use Rattle.std.proofs.lemmas.Bool.{and_parts, and_from, or_cases, or_left, or_right, false≢true, eqb-true, eq-eqb}
 use Rattle.std.proofs.lemmas.List.{length-append, Elements.All-nil, Elements.All-cons}
-use Rattle.std.specs.{List.All, Option.option_map_or}
-use Rattle.dd_clause.specs.{declared.clause.Literal.Literal, Clauses.negation}
-use Rattle.dd_derivation.specs.declared.propagation.Finding.{Finding}
-use Rattle.dd_derivation.specs.declared.propagation.Finding.TheVariants.{Falsified, Forced, Open}
+use Rattle.std.specs.List.{All}
+use Rattle.dd_clause.specs.declared.clause.Literal.{Literal}
 use Rattle.dd_derivation.specs.declared.step.Step.{Step}
-use Rattle.dd_derivation.specs.Derivations.{is_empty, is_among, finding, clause_of, follow, is_conflict, known_after, is_proper, is_right, refutes_from}
+use Rattle.dd_derivation.specs.Derivations.{is_empty, known_after, is_right, refutes_from}
 use Rattle.dd_solver.specs.Trimming.{is_hint, is_hinted, are_used}
-use Rattle.dd_solver.specs.searching.Marking.{kept_step, kept_steps}
-use Rattle.dd_solver.proofs.Numbers.{Known, known_push, known_left, known_last, known_within, known_before, length-after}
-
-is_empty-map : {X Y : Type 0} (f : X → Y) (xs : List X) → is_empty (map f xs) ≡ is_empty xs
-is_empty-map f [] = refl
-is_empty-map f (x ∷ xs) = refl
-
--- if hints end in a conflict, so do hints that name the same clauses by new numbers
-conflict_renamed : (old new : Known) (rename : ℕ → ℕ) (falses : List Literal) (hints : List ℕ) → ((h : ℕ) (x : List Literal) → is_hint h hints ≡ true → clause_of old h ≡ Some x → clause_of new (rename h) ≡ Some x) → is_conflict old falses hints ≡ true → is_conflict new falses (map rename hints) ≡ true
-conflict_renamed old new rename falses [] a h = h
-conflict_renamed old new rename falses (n ∷ hints) a h = go (λ l e. conflict_renamed old new rename (negation l ∷ falses) hints rest e) (clause_of old n) refl h
-  where
-    rest : (h : ℕ) (x : List Literal) → is_hint h hints ≡ true → clause_of old h ≡ Some x → clause_of new (rename h) ≡ Some x
-    rest h x i e = a h x (or_right _ _ i) e
-
-    next : ((l : Literal) → is_conflict old (negation l ∷ falses) hints ≡ true → is_conflict new (negation l ∷ falses) (map rename hints) ≡ true)
-        → (f : Finding) → follow f (is_empty hints) (λ l. is_conflict old (negation l ∷ falses) hints) ≡ true → follow f (is_empty (map rename hints)) (λ l. is_conflict new (negation l ∷ falses) (map rename hints)) ≡ true
-    next more Falsified e = is_empty-map rename hints ∙ e
-    next more (Forced l) e = more l e
-    next more Open e = absurd (false≢true e)
-
-    go : ((l : Literal) → is_conflict old (negation l ∷ falses) hints ≡ true → is_conflict new (negation l ∷ falses) (map rename hints) ≡ true)
-        → (o : Option (List Literal)) → clause_of old n ≡ o → follow (option_map_or (finding (is_among falses)) o Open) (is_empty hints) (λ l. is_conflict old (negation l ∷ falses) hints) ≡ true → is_conflict new falses (map rename (n ∷ hints)) ≡ true
-    go more None e f = absurd (false≢true f)
-    go more (Some x) e f =
-        let s : clause_of new (rename n) ≡ Some x = a n x (or_left _ _ (eq-eqb n n refl)) e in
-        rw s (next more (finding (is_among falses) x) f)
+use Rattle.dd_solver.specs.searching.{Marking.kept_step, Marking.kept_steps, Search.after_step}
+use Rattle.dd_solver.specs.lemmas.Known.{Known, known_push, known_before, length-after}
+use Rattle.dd_solver.specs.lemmas.Renumbering.{Agree, agree_kept, right_kept}
 
 -- some marked step has this number as a hint
 abbrev pub hinted_by : ℕ → List Bool → List Step → Bool
@@ -59,17 +33,6 @@ Plan keep rename next last [] steps = Unit {0}
 Plan keep rename next last (m ∷ marked) [] = Unit {0}
 Plan keep rename next last (m ∷ marked) (s ∷ steps) = IsPlanned keep rename next last m s marked steps × Plan keep rename (suc next) (cond m (suc last) last) marked steps
 
--- each kept clause that is in `old` is in `new` under its new number
-abbrev pub Agree : (ℕ → Bool) → (ℕ → ℕ) → Known → Known → Type 0
-Agree keep rename old new = (h : ℕ) (x : List Literal) → keep h ≡ true → clause_of old h ≡ Some x → clause_of new (rename h) ≡ Some x
-
-agree_kept : (keep : ℕ → Bool) (rename : ℕ → ℕ) (old new : Known) (c : List Literal) (ds : List ℕ) → rename (suc (length old)) ≡ suc (length new) → Agree keep rename old new → Agree keep rename (known_after old ds ++ Some c ∷ []) (new ++ Some c ∷ [])
-agree_kept keep rename old new c ds r a h x k e = elim (known_push (known_after old ds) c x h e) [
-  | inl b ↦ known_left new c x (rename h) (a h x k (known_before old x ds h b))
-  | inr b ↦ (let n : h ≡ suc (length old) = b.0 ∙ ap suc (length-after old ds) in
-      known_last new c (rename h) (ap rename n ∙ r) ∙ ap (λ (y : List Literal). Some y) b.1)
-]
-
 agree_left : (keep : ℕ → Bool) (rename : ℕ → ℕ) (old new : Known) (c : List Literal) (ds : List ℕ) → keep (suc (length old)) ≡ false → Agree keep rename old new → Agree keep rename (known_after old ds ++ Some c ∷ []) new
 agree_left keep rename old new c ds f a h x k e = elim (known_push (known_after old ds) c x h e) [
   | inl b ↦ a h x k (known_before old x ds h b)
@@ -81,16 +44,6 @@ none_kept : (rename : ℕ → ℕ) (marked : List Bool) (steps : List Step) → 
 none_kept rename [] steps h = refl
 none_kept rename (m ∷ marked) [] h = refl
 none_kept rename (m ∷ marked) (s ∷ steps) h = absurd (false≢true h)
-
-right_kept : (n : ℕ) (keep : ℕ → Bool) (rename : ℕ → ℕ) (old new : Known) (s : Step) → ((h : ℕ) → h < suc (length old) → is_hint h s.hints ≡ true → keep h ≡ true) → Agree keep rename old new → is_right n old s ≡ true → is_right n new (kept_step rename s) ≡ true
-right_kept n keep rename old new s k a r =
-    let q = and_parts (is_proper n s.clause) _ r in
-    let c = (and_parts (is_conflict old s.clause s.hints) _ q.1).0 in
-    and_from _ _ q.0 (and_from _ _ (conflict_renamed old new rename s.clause s.hints (λ h x i e. a h x (k h (known_within old x h e) i) e) c) refl)
-
--- the known clauses after a step
-abbrev after_step : Known → Step → Known
-after_step old s = known_after old s.deletes ++ Some s.clause ∷ []
 
 -- if the steps refute the clauses, so do the kept steps
 pub refutes_kept : (n : ℕ) (keep : ℕ → Bool) (rename : ℕ → ℕ) (next last : ℕ) (marked : List Bool) (steps : List Step) (old new : Known) → length marked ≡ length steps → next ≡ suc (length old) → last ≡ length new → Plan keep rename next last marked steps → Agree keep rename old new → refutes_from n old steps ≡ true → refutes_from n new (kept_steps rename marked steps) ≡ true

@@ -13,7 +13,7 @@ use Rattle.dd_trail.specs.{declared.trail.Entry.Entry, Trails.falses}
 use Rattle.dd_trail.specs.lemmas.{Trails.falses-more, Trails.in_falses, Trails.in_falses_take, Trails.get_any, Reasons.hint_clause, Reasons.at_clause, Reasons.apart}
 use Rattle.dd_trail.specs.Reasons.{Follows, IsTrail}
 use Rattle.dd_solver.specs.searching.Analysis.{marks, Grows, AreMarked, IsMarkedClause}
-use Rattle.dd_solver.proofs.Forcing.{in_left, in_right, in_cases, in_one, falsified_all}
+use Rattle.dd_solver.specs.lemmas.Forcing.{in_left, in_right, in_cases, in_one, falsified_all}
 use Rattle.dd_trail.specs.lemmas.Forcing.{all_falsified, forced_from}
 
 -- `start` holds literals that are taken to be false when the walk has come down to place i: all literals learned so far, the negated literals of all

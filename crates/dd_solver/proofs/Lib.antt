@@ -1,4 +1,3 @@
-pub mod Forcing
 pub mod Numbers
 pub mod Leads
 pub mod Backjumps

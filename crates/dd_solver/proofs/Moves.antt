@@ -20,8 +20,10 @@ use Rattle.dd_solver.specs.declared.analysis.Backjump.{Backjump}
 use Rattle.dd_solver.specs.searching.{Analysis.is_rightly_learned, Analysis.Asserts, Deleting.MayDelete}
 use Rattle.dd_solver.specs.searching.Search.{State, all_known, after_step, known_through, known, IsSearch, AreAlive, AreOpen, GoesOn}
 use Rattle.dd_trail.specs.lemmas.Forcing.{all_falsified}
-use Rattle.dd_solver.proofs.Numbers.{Known, known_left, known_push, known_before, known_within, in_list, length-all, holds_of_clause, before-more, known_of-push, all_alive, after_push, length-after}
-use Rattle.dd_solver.proofs.Derived.{through_more, length-through, trail_after, hint_new, in_range_after, right_from, derived_more, refutes_last}
+use Rattle.dd_solver.specs.lemmas.Known.{Known, known_left, known_push, known_before, known_within, length-all, before-more, all_alive, length-after}
+use Rattle.dd_solver.specs.lemmas.Steps.{through_more, length-through, derived_more}
+use Rattle.dd_solver.proofs.Numbers.{in_list, holds_of_clause, known_of-push, after_push}
+use Rattle.dd_solver.proofs.Derived.{trail_after, hint_new, in_range_after, right_from, refutes_last}
 
 module _ (n : ℕ) (cs : List (List Literal)) (steps : List Step) (trail : List Entry) (s : IsSearch (record { variables = n; clauses = cs; steps = steps; entries = trail })) where
   pub search_push : (e : Entry) → EntryOk n (known_through (all_known cs) steps) trail e → IsSearch (record { variables = n; clauses = cs; steps = steps; entries = trail ++ e ∷ [] })
@@ -56,7 +58,7 @@ module _ (n : ℕ) (cs : List (List Literal)) (steps : List Step) (trail : List 
         forces = rw (through_more (all_known cs) steps t) (hint_new (known_after before t.deletes) t.clause (is_among (falses (take u.place trail))) _ l ∙ e.forces);
       }
 
--- what is copied stays so when a step deletes clauses and adds its own
+-- a copy of the known clauses is still right after a step, which may delete clauses and adds its own; `dd_trail` explains copies (see `AreCopied`)
 pub copied_after : (before : Known) (copy : Copy) (t : Step) → AreCopied before copy → AreCopied (after_step before t) copy
 copied_after before copy t a = record {
   numbered = λ p. (let n = a.numbered p in omega (arith, n, length-append (known_after before t.deletes) (Some t.clause ∷ []), length-after before t.deletes));
@@ -78,7 +80,7 @@ search_first n cs a = record {
 pub alive_first : (cs : List (List Literal)) (alive : List Bool) → alive ≡ replicate (length cs) true → AreAlive cs [] alive
 alive_first cs alive e = record {
   as_many = omega (arith, ap length e, length-replicate (length cs) true);
-  same = rw (append-nil cs, e) (all_alive cs);
+  same = rw (append-nil cs, e) (all_alive cs (length cs) (omega arith));
 }
 
 -- `alive` is still right after a step, if the step's clause is marked as alive and the clauses that it deletes as not alive

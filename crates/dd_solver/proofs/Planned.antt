@@ -8,8 +8,8 @@ use Rattle.dd_derivation.specs.{declared.step.Step.Step, Derivations.is_empty, D
 use Rattle.dd_solver.specs.{searching.Search.all_known, Trimming.is_hint, Trimming.are_used}
 use Rattle.dd_solver.specs.searching.Marking.{IsNeeded, IsMarking, numbers_from, renamed, kept_steps}
 use Rattle.dd_trail.specs.lemmas.Trails.{get_any}
-use Rattle.dd_solver.proofs.Kept.{Agree, hinted_by, IsPlanned, Plan, refutes_kept, used_kept}
-use Rattle.dd_solver.proofs.Numbers.{known_within, length-all}
+use Rattle.dd_solver.specs.{lemmas.Known.known_within, lemmas.Known.length-all, lemmas.Renumbering.Agree}
+use Rattle.dd_solver.proofs.Kept.{hinted_by, IsPlanned, Plan, refutes_kept, used_kept}
 
 -- the facts of `IsPlanned`, stated for each index of the lists
 record Facts (keep : ℕ → Bool) (rename : ℕ → ℕ) (next last : ℕ) (marked : List Bool) (steps : List Step) : Type 0 where
@@ -107,7 +107,7 @@ agree : (clauses : List (List Literal)) (marked : List Bool) (numbers : List ℕ
 agree clauses marked numbers h x k e =
     let w = known_within (all_known clauses) x h e in
     let l : leb h (length clauses) ≡ true = le-leb h (length clauses) (omega (arith, length-all clauses, w)) in
-    rw l e
+    (x, rw l e, λ p. refl)
 
 -- if the steps refute the clauses, so do the marked steps with their new numbers
 pub marked_refute : (n : ℕ) (clauses : List (List Literal)) (steps : List Step) (marked : List Bool) → IsMarking (length clauses) 0 steps marked → refutes n clauses steps ≡ true → refutes n clauses (kept_steps (renamed (length clauses) (numbers_from (length clauses) marked)) marked steps) ≡ true

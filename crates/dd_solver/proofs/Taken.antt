@@ -2,7 +2,8 @@
 use Rattle.std.proofs.Common.{◌≡◌, ℕ, ◌+◌, ◌<◌, ◌≤◌, Bool, true, false, List, [], ◌∷◌, ◌++◌, is_some, ap, sym, ◌∙◌, get_or, arith}
 use Rattle.std.proofs.lemmas.Bool.{false≢true}
 use Rattle.dd_derivation.specs.Derivations.{clause_of, are_deletable, known_after}
-use Rattle.dd_solver.proofs.Numbers.{Known, after_more, deletable_more, other_number}
+use Rattle.dd_solver.specs.lemmas.Known.{Known}
+use Rattle.dd_solver.proofs.Numbers.{after_more, deletable_more, other_number}
 
 -- The clauses with the numbers taken so far can be deleted. If they are, a clause stays if it is not chosen, or if its number is at most `first` or
 -- at least `place`.

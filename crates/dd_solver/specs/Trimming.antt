@@ -11,7 +11,7 @@ is_hint number hints = list_any (λ h. h == number) hints
 abbrev pub is_hinted : ℕ → List Step → Bool
 is_hinted number steps = list_any (λ s. is_hint number s.hints) steps
 
--- Each step but the last is used: a hint of a later step names it. The number is that of the first step.
+-- Each step but the last is used: a hint of a later step names it. `number` is the number of the first step.
 abbrev pub are_used : ℕ → List Step → Bool
 are_used number [] = true
 are_used number (s ∷ later) = (is_empty later || is_hinted number later) && are_used (suc number) later

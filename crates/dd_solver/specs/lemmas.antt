@@ -1,1 +1,5 @@
 pub mod Right
+pub mod Forcing
+pub mod Known
+pub mod Steps
+pub mod Renumbering

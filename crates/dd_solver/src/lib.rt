@@ -1,9 +1,9 @@
 //! A search by conflict-driven clause learning. It finds an assignment that satisfies a clause list, or a refutation of the
-//! list. A refutation is a list of steps. Each step has a clause that follows from clauses before it, and hints: the numbers of
-//! the clauses that show this. The clauses of the list are numbered from 1 on, and those of the steps after them. The last
-//! step's clause is empty. A step may also delete clauses. A clause is alive, or known, until it is deleted. A step uses the
-//! earlier steps that its hints name. Trimming keeps the last step of a refutation, and the steps that it uses, directly or
-//! through others.
+//! list. A refutation is a list of steps. Each step has a clause that follows from clauses before it, and hints: the numbers
+//! of the clauses that show this. The clauses of the list are numbered from 1 on, and those of the steps after them. The last
+//! step's clause is empty. A step may also delete clauses. A clause is alive, or known, until it is deleted. A variable is in
+//! range if it is one of the list's variables 1 to n. A step uses the earlier steps that its hints name. Trimming keeps the
+//! last step of a refutation, and the steps that it uses, directly or through others.
 //!
 //! The trail lists the literals that are true, in the order in which they became true. The place of an entry is its index on
 //! the trail, from 0. An entry is decided, or a decision, if the search chose its literal. Otherwise it is forced: a clause,

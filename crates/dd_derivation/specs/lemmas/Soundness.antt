@@ -1,6 +1,6 @@
 -- Refutations are sound: if steps refute the clauses, no set of true variables satisfies them. A literal is true or false under a set: the variables
 -- in the set are true, and all others are false. A test calls some literals false.
-use Rattle.std.proofs.Common.{◌≡◌, ℕ, zero, suc, Bool, true, false, cond, not, ◌&&◌, ◌||◌, List, [], ◌∷◌, ◌++◌, Option, Some, None, refl, ap, sym, ◌∙◌, subst, inl, inr, ◌⊎◌, get_or, map}
+use Rattle.std.proofs.Common.{◌≡◌, ℕ, zero, suc, Bool, true, false, cond, not, ◌&&◌, ◌||◌, List, [], ◌∷◌, ◌++◌, Option, Some, None, refl, ap, sym, ◌∙◌, subst, inl, inr, ◌⊎◌, get_or, map, arith}
 use Rattle.std.specs.List.{list_any, list_all, filter, All, slice_get, slice_set}
 use Rattle.std.specs.Option.{option_map_or, option_and_then}
 use Rattle.std.proofs.lemmas.Bool.{eqb-true, eq-eqb, and_from, and_parts, or_cases, cases_Bool, or_parts, or_from, or_left, or_right, false≢true}
@@ -11,7 +11,7 @@ use Rattle.dd_clause.specs.Clauses.{negation, is_true_under, is_clause_true, Sat
 use Rattle.dd_derivation.specs.declared.propagation.Finding.{Finding}
 use Rattle.dd_derivation.specs.declared.propagation.Finding.TheVariants.{Falsified, Forced, Open}
 use Rattle.dd_derivation.specs.declared.step.Step.{Step}
-use Rattle.dd_derivation.specs.Derivations.{is_empty, same_literal, is_among, finding_of, finding, clause_of, hint_finding, follow, is_conflict, is_proper, is_right, known_after, refutes_from, refutes}
+use Rattle.dd_derivation.specs.Derivations.{is_empty, same_literal, is_among, finding_of, finding, clause_of, hint_finding, follow, is_conflict, is_proper, is_right, known_after, refutes_from, refutes, derives_from, derives}
 use Rattle.dd_values.specs.lemmas.Booleans.{same_from_beq, beq_same}
 use Rattle.dd_clause.specs.lemmas.LiteralLaws.{is_true_under-negation}
 
@@ -173,6 +173,26 @@ refutes_false set n known (step ∷ steps) s h =
       | inr r ↦ refutes_false set n (known_after known step.deletes ++ Some step.clause ∷ []) steps (All-push (TrueIfKnown set) _ (Some step.clause) (after_true set known step.deletes s) (λ c e. let q : step.clause ≡ c = some_eq _ _ e in subst (λ (x : List Literal). is_clause_true set x ≡ true) q t)) r
     ]
 
+-- all clauses are known and true
+all_true : (set : ℕ → Bool) (clauses : List (List Literal)) → Satisfies set clauses → KnownTrue set (map (λ c. Some c) clauses)
+all_true set clauses s = All-map (TrueIfKnown set) (λ c. Some c) clauses (λ k d l c e. let q : get_or clauses k d ≡ c = some_eq _ _ e in subst (λ (x : List Literal). is_clause_true set x ≡ true) q (s k d l))
+
 -- a refutation is sound: if the steps refute the clauses, no set of true variables satisfies them
 pub refutes_sound : (n : ℕ) (clauses : List (List Literal)) (steps : List Step) → refutes n clauses steps ≡ true → (set : ℕ → Bool) → Satisfies set clauses → ⊥
-refutes_sound n clauses steps h set s = refutes_false set n (map (λ c. Some c) clauses) steps (All-map (TrueIfKnown set) (λ c. Some c) clauses (λ k d l c e. let q : get_or clauses k d ≡ c = some_eq _ _ e in subst (λ (x : List Literal). is_clause_true set x ≡ true) q (s k d l))) h
+refutes_sound n clauses steps h set s = refutes_false set n (map (λ c. Some c) clauses) steps (all_true set clauses s) h
+
+derives_true : (set : ℕ → Bool) (n : ℕ) (known : List (Option (List Literal))) (steps : List Step) → KnownTrue set known → derives_from n known steps ≡ true → Satisfies set (map (λ s. s.clause) steps)
+derives_true set n known [] s h = λ k d lt. absurd (omega arith)
+derives_true set n known (step ∷ steps) s h =
+    let p = and_parts (is_empty step.deletes && is_right n known step) _ h in
+    let t = step_true set n known step s (and_parts (is_empty step.deletes) _ p.0).1 in
+    let rest : Satisfies set (map (λ s. s.clause) steps) = derives_true set n (known ++ Some step.clause ∷ []) steps (All-push (TrueIfKnown set) known (Some step.clause) s (λ c e. let q : step.clause ≡ c = some_eq _ _ e in subst (λ (x : List Literal). is_clause_true set x ≡ true) q t)) p.1 in
+    at t rest
+  where
+    at : is_clause_true set step.clause ≡ true → Satisfies set (map (λ s. s.clause) steps) → Satisfies set (step.clause ∷ map (λ s. s.clause) steps)
+    at t r zero d lt = t
+    at t r (suc k) d lt = r k d (omega arith)
+
+-- a derivation is sound: if a set of true variables satisfies the clauses, it also satisfies those of the steps
+pub derives_sound : (n : ℕ) (clauses : List (List Literal)) (steps : List Step) → derives n clauses steps ≡ true → (set : ℕ → Bool) → Satisfies set clauses → Satisfies set (map (λ s. s.clause) steps)
+derives_sound n clauses steps h set s = derives_true set n (map (λ c. Some c) clauses) steps (all_true set clauses s) h

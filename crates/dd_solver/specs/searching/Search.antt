@@ -64,8 +64,8 @@ pub record IsForced (s : State) (backjump : Backjump) : Type 0 where
   pub decided : (d : Entry) → (slice_index_or s.entries backjump.place d).reason ≡ None
   pub forces : hint_finding (known s) (is_among (falses (take backjump.place s.entries))) (length s.clauses + length s.steps) ≡ Forced backjump.literal
 
--- what holds after the analysis of a conflict: if there is a backjump, the last step's clause forces its literal once the trail is cut at its place;
--- if not, the steps refute the clauses
+-- what holds after the analysis of a conflict: if there is a backjump, the last step's clause forces the backjump's literal once the trail is cut at
+-- the backjump's place; if there is none, the steps refute the clauses
 abbrev pub GoesOn : State → Option Backjump → Type 0
 GoesOn s backjump = MatchOption backjump (refutes s.variables s.clauses s.steps ≡ true) (IsForced s)
 

@@ -1,9 +1,8 @@
-use Rattle.std.proofs.Common.{◌≡◌, ◌+◌, List, [], ◌∷◌, ◌++◌, Option, Some, true, false, eqb, length, get_or, take, arith, sym, refl, ◌∙◌, ap}
+use Rattle.std.proofs.Common.{◌≡◌, ◌+◌, List, true, false, eqb, length, get_or, take, arith, sym, refl, ◌∙◌, ap}
 use Rattle.std.proofs.lemmas.List.{length-take}
 use Rattle.dd_clause.specs.declared.clause.Literal.{Literal}
-use Rattle.dd_derivation.specs.{declared.step.Step.Step, Derivations.clauses_before, Derivations.known_after, checking.MarksOf.known_of}
-use Rattle.dd_derivation.specs.lemmas.Numbers.{length-before}
-use Rattle.dd_derivation.proofs.Whole.{all_alive, known_of-snoc, before_more, before_none, last_step, more_step}
+use Rattle.dd_derivation.specs.{Derivations.clauses_before, checking.MarksOf.known_of}
+use Rattle.dd_derivation.proofs.Whole.{all_alive, before_none, known_next, last_step, more_step}
 use Rattle.dd_derivation.proofs.refutation.check_all.Goals as goal
 
 pub loop-i-init : goal.loop-i-init
@@ -28,19 +27,16 @@ pub loop-i-preserved : goal.loop-i-preserved
 loop-i-preserved c =
     let s = c.index-steps-i.result in
     let steps = c.args.steps.now in
+    let clauses = c.args.clauses.now in
     let i = c.loop-i.i in
-    let cs = clauses_before c.args.clauses.now (take i steps) in
+    let known = known_of (clauses_before clauses (take i steps)) c.loop-i.alive in
     let n = length c.loop-i.marks in
-    let right = sym c.if-not-check_one.ensures.value in
     let v = c.loop-i.invariant in
-    let after = c.if-not-check_one.ensures.after refl in
-    let b : clauses_before c.args.clauses.now (take (i + 1) steps) ≡ cs ++ s.clause ∷ [] = before_more c.args.clauses.now steps i s c.loop-i-test.true ∙ ap (λ (x : Step). cs ++ x.clause ∷ []) (sym c.index-steps-i.is) in
-    let here : get_or c.check_one.new.alive (length cs) false ≡ true =
-    c.check_one.ensures.later (length cs) (omega (arith, length-before c.args.clauses.now (take i steps))) ∙ v.later (length cs) (omega (arith, length-before c.args.clauses.now (take i steps), length-take i steps)) (omega (arith, length-before c.args.clauses.now (take i steps), length-take i steps)) in
-    let k : known_of (cs ++ s.clause ∷ []) c.check_one.new.alive ≡ known_after (known_of cs c.loop-i.alive) s.deletes ++ Some s.clause ∷ [] =
-    known_of-snoc cs s.clause c.check_one.new.alive (omega (arith, length-before c.args.clauses.now (take i steps), length-take i steps)) here ∙ ap (λ (ys : List (Option (List Literal))). ys ++ Some s.clause ∷ []) after in
+    let here : get_or c.check_one.new.alive (length clauses + i) false ≡ true =
+    c.check_one.ensures.later (length clauses + i) (omega (arith, length-take i steps)) ∙ v.later (length clauses + i) (omega arith) (omega arith) in
+    let next = known_next clauses steps i s c.loop-i.alive c.check_one.new.alive c.loop-i-test.true c.index-steps-i.is (omega arith) here (c.if-not-check_one.ensures.after refl) in
     record {
-      value = rw (c.check_one.auto.marks, b, k) (v.value ∙ more_step n (known_of cs c.loop-i.alive) steps i s c.loop-i-test.true c.index-steps-i.is c.if-i-steps.false right);
+      value = rw (c.check_one.auto.marks, next) (v.value ∙ more_step n known steps i s c.loop-i-test.true c.index-steps-i.is c.if-i-steps.false (sym c.if-not-check_one.ensures.value));
       later = λ j a d. c.check_one.ensures.later j (omega (arith, length-take i steps)) ∙ v.later j (omega arith) (omega arith);
       older = λ j d h. (let o = c.check_one.ensures.older j d h in omega arith);
     }

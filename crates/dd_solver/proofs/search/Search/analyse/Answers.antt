@@ -5,7 +5,7 @@ use Rattle.dd_derivation.specs.declared.step.Step.{Step}
 use Rattle.dd_solver.specs.searching.{Search.all_known, Analysis.is_rightly_learned, Analysis.Asserts}
 use Rattle.dd_solver.specs.searching.{Deleting.MayDelete, Search.known_through}
 use Rattle.dd_trail.specs.Copies.{AreCopied}
-use Rattle.dd_solver.proofs.Derived.{through_more}
+use Rattle.dd_solver.specs.lemmas.Steps.{through_more}
 use Rattle.dd_solver.proofs.Moves.{search_learned, alive_more, goes_on, copied_after}
 use Rattle.dd_solver.proofs.search.Search.analyse.Goals as goal
 
