@@ -1,6 +1,7 @@
--- A right answer is a certificate. Where it answers a box question, this follows from the decision of the question. (A box question asks whether no
--- configuration that obeys a rule has the goal, a property of a position, at any position.) The decision gives a YES its radius and its refutation.
--- The configuration of a NO can be read back from what the answer writes of it.
+-- A right answer is a certificate. (A box question has a rule and a goal, which is a property of a position. It asks whether no configuration that
+-- obeys the rule has the goal at any position.) A right answer to a box question is written from a decision: YES with a radius and a refutation, NO
+-- with a configuration, or UNKNOWN. The radius and the refutation of a YES are what its certificate needs. The configuration of a NO can be read back
+-- from what the answer writes.
 use Rattle.std.proofs.Common.{◌≡◌, ℕ, List, max, refl, ap, sym, subst, ◌∙◌, arith}
 use Rattle.dd_derivation.specs.{Derivations.IsRefuting, declared.step.Step.Step}
 use Rattle.dd_problem.specs.Problems.{box_problem}

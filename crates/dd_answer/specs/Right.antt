@@ -11,7 +11,6 @@ Right s q a = IsSomeAnd (asked s q) (λ k. IsRightTo s.known.limits k a)
 
 -- The answer is a right answer to the query, and one that an output can hold.
 pub record IsAnswerTo (s : Parts) (q : Query) (a : Answer) : Type 0 where
-  -- It is right.
   pub right : Right s q a
-  -- An output can hold it: each of its numbers and lists is within its bounds.
+  -- An output can hold the answer: its numbers are within bounds, and its lists have lengths that an output allows.
   pub writable : IsWritable a

@@ -12,8 +12,8 @@ use dd_respond::respond;
 use dd_script::Script;
 use std::alloc::{AllocError, Global};
 
-/// A right answer to a query of a script. It is one that an output can hold: each of its numbers and lists is within its
-/// bounds.
+/// A right answer to a query of a script. It is one that an output can hold: its numbers are within bounds, and its lists
+/// have lengths that an output allows.
 ///
 /// If the query comes down to box questions, the engines of the roster are asked, as in `decide` of `dd_contain`. For other
 /// queries no engine is asked. The sound engines stay in the roster.

@@ -1,4 +1,5 @@
--- The image of a configuration, from the values in its fundamental box, and under compositions. Each cell that is read from the box has a symbol.
+-- The image of a configuration, from the values in its fundamental box, and under compositions. Each cell that an automaton reads at a cell of the
+-- box has a symbol.
 use Rattle.std.proofs.Common.{◌≡◌, ◌<◌, ℕ, zero, suc, ◌+◌, Bool, true, false, List, [], ◌∷◌, ◌++◌, Some, None, cond, length, slice_get, ap, sym, ◌∙◌, refl, subst, arith, inl, inr}
 use Rattle.std.proofs.Math.Nat.{eq-or-lt_of_le}
 use Rattle.std.proofs.lemmas.Bool.{and_parts, and_from, ltb-true, lt-ltb, leb-true}
@@ -64,8 +65,8 @@ tile_is_below n t h c = by (nat_lt c.node t.nodes)
     by true = below_at n t.symbols h (tile_index t c)
     by false = tt
 
--- if cells are near the origin and belong to a setting with the configuration's number of nodes, then each of them, shifted by the position of a cell
--- of the box, lies in the range of positions and has a symbol
+-- Let s have the configuration's number of nodes, and let each cell of a list be near the origin (`is_near`) and be a cell of s (`is_cell_of`). Then
+-- each of these cells, shifted by the position of a cell of the box, is in range and has a symbol.
 pub given_all : (t : Tile) (s : CommonNumbers) → IsPeriodic t → s.nodes ≡ t.nodes → (c : Cell) → IsInBox t c → (ds : List Cell) → list_all is_near ds ≡ true → list_all (is_cell_of s) ds ≡ true →
     are_given (tile_look t) c.position ds ≡ true
 given_all t s ok same c h [] near placed = refl
@@ -122,7 +123,7 @@ image_composed f g t u w h placed first second = record {
   below = λ n well. second.below n (subst (λ s. IsAutomaton s f) (same_numbers t u n first.dimension first.nodes) (outer_part (tile_numbers t n) f g well));
 }
 
--- a list with one more item at its end: the items before it stay as they were, and the new item is the last
+-- two lemmas: after an item is appended to a list, the items before it stay as they were, and the new item is the last
 get_before : (xs : List ℕ) (x k : ℕ) → k < length xs → slice_get (xs ++ x ∷ []) k ≡ slice_get xs k
 get_before [] x k h = absurd (omega arith)
 get_before (y ∷ ys) x zero h = refl

@@ -1,4 +1,5 @@
--- If an automaton is defined on a periodic configuration, each cell that it reads at the origin has a symbol. So it has a value there.
+-- If an automaton is defined on a periodic configuration, each cell that the automaton reads at the origin has a symbol. So the automaton has a value
+-- there.
 use Rattle.std.proofs.Common.{◌≡◌, ◌<◌, ℕ, true, Option, Some, None, if◌then◌else◌, refl, ap, sym, ◌∙◌}
 use Rattle.dd_pattern.specs.{Tile.Tile, Tile.IsPeriodic, Tile.tile_look, lemmas.BoxLaws.origin_in_box}
 use Rattle.dd_expansion.specs.Terms.{origin_at}

@@ -5,7 +5,7 @@ use Rattle.dd_pattern.specs.Tile.{Tile, tile_look}
 use Rattle.dd_expansion.specs.Terms.{origin_at}
 use Rattle.dd_formula.specs.{Automata.CommonNumbers, Automata.IsAutomaton, Automata.value, declared.automaton.Automaton.Automaton}
 
--- the numbers over which an automaton is to be well formed: the configuration's dimension and number of nodes, and n as the number of symbols
+-- the numbers over which an automaton must be well formed: the configuration's dimension, its number of nodes, and n as the size of the alphabet
 abbrev pub tile_numbers : Tile → ℕ → CommonNumbers
 tile_numbers t n = record { dimension = t.dimension; nodes = t.nodes; symbols = n }
 

@@ -1,4 +1,4 @@
--- What a CONJUGATE says about any configuration, periodic or not, if what it claims is true.
+-- What follows for any configuration, periodic or not, if the claim of a CONJUGATE is true.
 use Rattle.std.proofs.Common.{◌≡◌, ℕ, ◌<◌, true, refl, sym, subst, ◌∙◌, Some, None}
 use Rattle.std.proofs.lemmas.Bool.{false≢true}
 use Rattle.std.specs.Prelude.{Option, IsSomeAnd, IfSome, slice_get}

@@ -17,7 +17,7 @@ is_conjugate a = starts_with nat_eq (verdict_text a) (codes "CONJUGATE")
 pub data IsConjugacy : Query → Type 0 where
   a_conjugacy : {there back from to : ℕ} → IsConjugacy (Query.Conjugate there back from to)
 
--- the query with this number, counted from 1 (0 counts as 1), is such a query
+-- the query with this number, counted from 1 (0 counts as 1), asks about a conjugacy (see `IsConjugacy`)
 abbrev pub IsConjugacyAt : Parts → ℕ → Type 0
 IsConjugacyAt s number = IsSomeAnd (query_at s number) IsConjugacy
 
@@ -27,8 +27,8 @@ pub record IsCarriedAt (y : LocalRule) (f g : Automaton) (look : Look) (v : Plac
   pub keeps : AtEachNode y.nodes (KeepsAt f y look) v
   pub gives_back : AtEachNode y.nodes (GivesBackAt g f look) v
 
--- If the configuration obeys x everywhere, then, at v, f carries it to one that obeys y, and g carries this one back (see `IsCarriedAt`). If the
--- configuration obeys y everywhere, then, at v, g carries it to one that obeys x, and f carries this one back.
+-- If the configuration obeys x everywhere, then, at v, its image under f obeys y, and g carries this image back (see `IsCarriedAt`). If the
+-- configuration obeys y everywhere, then, at v, its image under g obeys x, and f carries this image back.
 pub record AreInverseAt (x y : LocalRule) (f g : Automaton) (look : Look) (v : Place) : Type 0 where
   pub there : Obeys x look → IsCarriedAt y f g look v
   pub back : Obeys y look → IsCarriedAt x g f look v

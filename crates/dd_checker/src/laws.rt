@@ -22,10 +22,10 @@ pub(crate) fn query_certified(script: &Script, query: &Query)
 {
     if asks_pairs(query) {
         // The query is about an image or a conjugacy, so its box questions are about pairs of automata. The script doesn't
-        // store these pairs, but its invariant says what the law requires of their automata.
+        // store these pairs, but its invariant says what the law `claims_hold_for_goals` requires of their automata.
         claims_hold_for_goals();
         script.sound_questions();
-        // This call tells the proof what the type guarantees.
+        // This call tells the proof what the type `Script` guarantees.
         let _limits = script.limits();
     } else {
         let question = script.question(query, &[]);
@@ -34,9 +34,10 @@ pub(crate) fn query_certified(script: &Script, query: &Query)
 }
 
 /// Changes nothing. Its contract says that the claim of each certificate for a query of the script is true. For example, the
-/// answer BOUND gives a bound for a discharge, which is a plan for moving weight between positions. Its claim covers boxes of
-/// every side length at every position. In each configuration that obeys the rule, such a box weighs at least the number of its
-/// positions times the bound, less what it may receive from outside by the plan.
+/// answer BOUND gives a lower bound for the weight per position, by means of a discharge, which is a plan for moving weight
+/// between positions. Its claim covers boxes of every side length at every position. In each configuration that obeys the
+/// rule, such a box weighs at least the number of its positions times the bound, less what it may receive from outside under
+/// the plan.
 pub fn certified(script: &Script)
     ensures { (number : ℕ) (answer : AnyAnswer) → IsCertificate script.now number answer → Claim script.now number answer }
 {
@@ -94,6 +95,6 @@ pub fn conjugate_at<C: Configuration>(
         (whole_look script.now.known.setting.topology.dimension (C.nodes _configuration.now) (C.symbol_of _configuration.now)) _place.now }
 {
     certified(script);
-    // This call tells the proof what the type guarantees.
+    // This call tells the proof what the type `Script` guarantees.
     let _dimension = script.dim();
 }

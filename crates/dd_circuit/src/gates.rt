@@ -63,7 +63,7 @@ impl Model for Circuit {
 }
 
 impl Circuit {
-    /// A circuit with inputs only. It allocates nothing until a gate is added.
+    /// A circuit with at most 2^24 inputs and no gates. It allocates nothing until a gate is added.
     pub fn new(alloc: Global, inputs: u32) -> Circuit
         requires { inputs ≤ most_variables }
         ensures inputs { result.inputs ≡ inputs }
@@ -101,7 +101,8 @@ impl Circuit {
         self.inputs + self.gates.len() as u32
     }
 
-    /// Adds a gate over signals of the circuit, and returns its signal. If memory runs out, the circuit is unchanged.
+    /// Adds a gate over signals of the circuit's variables, and returns the gate's variable as a signal. If memory runs out,
+    /// the circuit is unchanged.
     fn add(&mut self, gate: Gate) -> Result<Signal, AllocError>
         requires few { size self.old < most_variables }
         requires in_range { IsGate (size self.old) gate }
@@ -120,8 +121,9 @@ impl Circuit {
         })
     }
 
-    /// Adds a gate that is true if all members are, and returns its signal. The members must be signals of the circuit, and it
-    /// must have fewer than 2^24 variables. If memory runs out, the circuit is unchanged.
+    /// Adds a gate that is true if all members are, and returns the gate's variable as a signal. The members must be signals
+    /// of the circuit's variables, and the circuit must have fewer than 2^24 variables. If memory runs out, the circuit is
+    /// unchanged.
     pub fn and(&mut self, members: &[Signal]) -> Result<Signal, AllocError>
         requires few { size self.old < most_variables }
         requires in_range { All (IsSignal (size self.old)) members.now }
@@ -136,8 +138,9 @@ impl Circuit {
         self.add(Gate::And(members))
     }
 
-    /// Adds a gate that is true if some member is, and returns its signal. The members must be signals of the circuit, and it
-    /// must have fewer than 2^24 variables. If memory runs out, the circuit is unchanged.
+    /// Adds a gate that is true if some member is, and returns the gate's variable as a signal. The members must be signals of
+    /// the circuit's variables, and the circuit must have fewer than 2^24 variables. If memory runs out, the circuit is
+    /// unchanged.
     pub fn or(&mut self, members: &[Signal]) -> Result<Signal, AllocError>
         requires few { size self.old < most_variables }
         requires in_range { All (IsSignal (size self.old)) members.now }
@@ -152,8 +155,9 @@ impl Circuit {
         self.add(Gate::Or(members))
     }
 
-    /// Adds a gate that is true if `a` and `b` have the same value, and returns its signal. Both must be signals of the
-    /// circuit, and it must have fewer than 2^24 variables. If memory runs out, the circuit is unchanged.
+    /// Adds a gate that is true if `a` and `b` have the same value, and returns the gate's variable as a signal. Both must be
+    /// signals of the circuit's variables, and the circuit must have fewer than 2^24 variables. If memory runs out, the
+    /// circuit is unchanged.
     pub fn iff(&mut self, a: Signal, b: Signal) -> Result<Signal, AllocError>
         requires few { size self.old < most_variables }
         requires first_in_range { IsSignal (size self.old) a }

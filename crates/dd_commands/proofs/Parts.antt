@@ -1,4 +1,4 @@
--- The parts of a script are cut off one after another. The commands read so far and those in the remaining parts are together all the commands.
+-- The parts of a script are cut off one after another. The commands read so far and those in the remaining parts together make up all the commands.
 use Rattle.std.proofs.Common.{◌≡◌, ℕ, suc, ◌+◌, ◌<◌, ◌≤◌, List, [], ◌∷◌, ◌++◌, length, take, drop, Some, zero-add, refl, ap, subst, append_assoc, arith, append-nil}
 use Rattle.std.specs.List.{prefix_len}
 use Rattle.dd_written.specs.reading.Laws.{FormulasAreRead}
@@ -6,8 +6,8 @@ use Rattle.dd_commands.specs.{Tree.Mark, Tree.Lexeme, Tree.Written, reading.Part
 use Rattle.dd_commands.specs.lemmas.Whole.{written_sound}
 use Rattle.dd_commands.specs.Scripts.{parts, stage_after, AreCommands, IsFirstBad, AreWritten, IsBadCommand}
 
--- The first component of `parts` is the list of tokens before the first `%`. The tokens from this `%` on have the same parts, and nothing before
--- them.
+-- The first component of `parts` is the list of tokens before the first `%`. The tokens from this `%` on have the same parts, and no token before
+-- their first `%`.
 pub cut : (tokens : List Lexeme) → let n = prefix_len is_inside tokens in
     ((parts tokens).0 ≡ take n tokens) × ((parts tokens).1 ≡ (parts (drop n tokens)).1) × ((parts (drop n tokens)).0 ≡ [])
 cut [] = (refl, refl, refl)

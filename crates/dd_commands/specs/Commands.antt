@@ -60,14 +60,14 @@ pub record AreCases (bytes : List ℕ) (cases : List Case) (default : Name) (tok
 abbrev pub IsOnePlain : List Vector → Type 0
 IsOnePlain vs = (v : Vector) × (vs ≡ v ∷ []) × (is_plain v ≡ true)
 
--- a query may end with these vectors if the row of its kind has this value of `lists`
+-- a query may end with these vectors if the field `lists` of its kind's row has this value
 abbrev pub AreLists : Lists → List Vector → Type 0
 AreLists Lists.None vs = vs ≡ []
 AreLists Lists.Strip vs = IsOnePlain vs
 AreLists Lists.Torus vs = IsOnePlain vs
 AreLists Lists.Vectors vs = 1 ≤ length vs
 
--- the query has as many words and numbers, and such vectors, as the row of its kind asks for
+-- the query has as many words and numbers as the row of its kind says, and the row allows its vectors
 pub record IsRequest (r : Request) : Type 0 where
   pub words : length r.words ≡ length (row r.kind).names
   pub numbers : length r.numbers ≡ (row r.kind).numbers

@@ -38,7 +38,7 @@ abbrev pub parts : List Lexeme → List Lexeme × List (List Lexeme)
 parts [] = ([], [])
 parts (t ∷ tokens) = if is_percent t then ([], (parts tokens).0 ∷ (parts tokens).1) else (t ∷ (parts tokens).0, (parts tokens).1)
 
--- whether a token is not stray; a stray token stands for all bytes from the first one that isn't allowed
+-- whether a token is not stray; a stray token stands for the first byte that isn't allowed and for all bytes after it
 abbrev pub is_whole : Lexeme → Bool
 is_whole (Lexeme.Word w) = true
 is_whole (Lexeme.Number n) = true

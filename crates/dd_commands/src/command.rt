@@ -102,8 +102,9 @@ pub enum Command {
         outer: Word,
         inner: Word,
     },
-    /// `conf name [period ..] [shear ..] symbol ..`: a periodic configuration. The shear may be left out. Neither vector has a
-    /// negative number. The symbols are those of the box that repeats, in cell order: by z, then y, then x, then the node.
+    /// `conf name [period ..] [shear ..] symbol ..`: a periodic configuration. The second vector, the shear, may be left out.
+    /// How many numbers it has isn't limited here. Neither vector has a negative number. The symbols are those of the box that
+    /// repeats, in cell order: by z, then y, then x, then the node.
     Configuration {
         name: Word,
         periods: Vector,

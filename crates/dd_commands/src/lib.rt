@@ -1,6 +1,6 @@
 //! The syntax trees of scripts and their commands, and how they are read from bytes. Tokens are the lexemes of `dd_written`.
-//! The token `Stray` stands for all bytes from the first one that isn't allowed. A reader takes an item from the front of a
-//! list of tokens.
+//! The token `Stray` stands for the first byte that isn't allowed and for all bytes after it. A reader takes an item from the
+//! front of a list of tokens.
 //!
 //! A command is a `%`, a first word, and a body, which is all that follows up to the next `%`. The first word determines the
 //! head and the stage of the command. The head says which command it is. The stage is a number: no command may follow one of a

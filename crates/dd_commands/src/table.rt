@@ -49,12 +49,12 @@ pub enum QueryKind {
     Conjugate,
     /// `forbidden X`: which fillings of the cells that X reads does X forbid?
     Forbidden,
-    /// `minimal X`: which patterns without needless cells forbid what X forbids?
+    /// `minimal X`: which patterns, none with a needless cell, together forbid exactly what X forbids?
     Minimal,
     /// `density X [5]`: what is the least density that the rule allows on a strip with these periods?
     Density,
-    /// `least X [3 3]`: of the configurations that obey X and have these periods and no shear, what is the least weight of the
-    /// box that repeats?
+    /// `least X [3 3]`: what is the least weight of the box that repeats, among the configurations that obey X and have these
+    /// periods and no shear?
     Least,
     /// `discharge X r m [1 0] ..`: what is the best lower bound for the density by discharging, with radius r, margin m and
     /// these vectors?

@@ -1,5 +1,5 @@
--- The gates of an expansion, as a function of the number of variables before them, and how many they are; the wires that its leaves need; and when one
--- circuit extends another.
+-- The gates of an expansion, as a function of the number of variables before them; the number of these gates; the wires that the expansion's leaves
+-- need; and when one circuit extends another.
 use Rattle.std.specs.Prelude.{ℕ, ◌+◌, ◌≡◌, ◌&&◌, Bool, false, if◌then◌else◌, nat_le, List, [], ◌∷◌, ◌++◌, map, length, Option, Some, None}
 use Rattle.std.specs.List.{list_all}
 use Rattle.dd_lattice.specs.{Place.Place, Place.moved, Place.is_in_range, Cells.shifted, declared.position.Cell.Cell}
@@ -66,6 +66,7 @@ gate_count_step (Expanded-F.Iff f g) = (f + g) + 1
 abbrev pub gate_count : Expanded → ℕ
 gate_count = fold-Expanded ℕ gate_count_step
 
+-- the number of gates that are added for several expansions
 abbrev pub all_counts : List Expanded → ℕ
 all_counts es = total (map gate_count es)
 
@@ -86,6 +87,7 @@ is_wire n (Some s) = nat_le 1 s.variable && nat_le s.variable n
 abbrev pub are_wired : ℕ → Wires → Expanded → Bool
 are_wired n wires = leaves_pass (λ c s. is_wire n (wires c s))
 
+-- the same for each of several expansions
 abbrev pub all_wired : ℕ → Wires → List Expanded → Bool
 all_wired n wires es = list_all (are_wired n wires) es
 
@@ -98,10 +100,11 @@ wire_or_zero (Some s) = s
 abbrev pub certain : Wires → Cell → ℕ → Signal
 certain wires c s = wire_or_zero (wires c s)
 
--- the signal and the gates of an expansion, or of several, over the wiring w, where the cells of the leaves are relative to the position v
+-- the signal and the gates of an expansion over the wiring w, where the cells of the leaves are relative to the position v
 abbrev pub compiled : Wiring → Place → Expanded → Maker
 compiled w v = made (certain (wires_near w v))
 
+-- the same for several expansions: their signals and their gates, one expansion after the other
 abbrev pub all_compiled : Wiring → Place → List Expanded → ℕ → AllMade
 all_compiled w v es = all_made (map (compiled w v) es)
 

@@ -39,7 +39,8 @@ giving s (x ∷ xs) (f ∷ fs) = if x == s then f ∷ giving s xs fs else giving
 abbrev pub symbol_gates : ℕ → List ℕ → List Signal → List Gate
 symbol_gates k xs fs = map (λ s. Or (giving s xs fs)) (range_with_len 0 k)
 
--- a function that gives the signals of a value, by symbol, and its gates, from a wiring, a cell and the number of variables before these gates
+-- a function that gives the signals of a value, in the order of the symbols, and its gates, from a wiring, a cell and the number of variables before
+-- these gates
 abbrev pub ValueMaker : Type 0
 ValueMaker = Wiring → Cell → ℕ → AllMade
 

@@ -132,7 +132,7 @@ fn compile_composed(
 }
 
 /// Adds the gates of the automaton's values at `cells`, which are relative to `at`, one cell after the other. Returns these
-/// cells, moved by `at`, each with the signals of its value.
+/// cells, moved by `at`, each with the signals of the automaton's value there.
 #[cycle(compile_near)]
 fn compile_inner(
     circuit: &mut Circuit,

@@ -44,8 +44,8 @@ impl Inputs {
         }
     }
 
-    /// Adds a cell, which comes after all others in cell order, and its signals, in the order of the symbols. If memory runs
-    /// out, the inputs are unchanged.
+    /// Adds a cell and its signals, in the order of the symbols. The cell must come after all others in cell order. If memory
+    /// runs out, the inputs are unchanged.
     pub fn add(&mut self, cell: Cell, signals: Vec<Signal>) -> Result<(), AllocError>
         requires { All (λ c. cell_cmp c cell ≡ Less) self.old.cells }
         ensures ok { OnOk result (self.new ≡ with_cell self.old cell signals.items) }

@@ -15,9 +15,9 @@ fn rules_are_kept(cases: &Cases)
     }
 }
 
-/// Does nothing. Its contract is the law for each cell at least 16 * (d + 1) from the border of the range of positions, where d
-/// is the automaton's depth (how deep its compositions are nested). That is far enough for the automaton and its parts to read
-/// only cells in range.
+/// Does nothing. Its contract is the law of the automaton's value at each cell at least 16 * (d + 1) from the border of the
+/// range of positions, where d is the automaton's depth (how deep its compositions are nested). That is far enough for the
+/// automaton and its parts to read only cells in range.
 fn says_near(automaton: &Automaton)
     ensures { SaysNear automaton.now }
 {
@@ -31,10 +31,10 @@ fn says_near(automaton: &Automaton)
     }
 }
 
-/// Does nothing. Its contract is the law for each cell at least 2048 from the border of the range of positions. Any number of
-/// variables may come before the gates of the automaton's value at the cell. If each cell that the automaton reads for this
-/// value has a signal of these variables for each symbol, then each gate is over earlier variables, and the signals of the
-/// value say which symbol the value is.
+/// Does nothing. Its contract is the law of the automaton's value at each cell at least 2048 from the border of the range of
+/// positions. Any number of variables may come before the gates of this value. Suppose that each cell that the automaton reads
+/// for this value has one signal for each symbol, and that these signals have variables among those before the gates. Then
+/// each gate is over earlier variables, and the signals of the value say which symbol the value is.
 pub fn says_its_value(automaton: &Automaton)
     ensures { SaysItsValue automaton.now }
 {

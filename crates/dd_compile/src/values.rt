@@ -21,9 +21,9 @@ use dd_formula::Cases;
 use dd_lattice::Cell;
 use std::alloc::{AllocError, Global};
 
-/// Adds the gates of the value, at the cell `at`, of the automaton that these cases give, over an alphabet of `symbols`
-/// symbols. Returns the signals of the value, numbered from 0: signal `s` says that the value is the symbol `s`. If memory runs
-/// out, gates may have been added.
+/// Adds the gates of the value, at the cell `at`, of the automaton that these cases give. The alphabet has `symbols` symbols.
+/// Returns the signals of the value, numbered from 0: signal `s` says that the value is the symbol `s`. If memory runs out,
+/// gates may have been added.
 pub fn compile_cases(
     circuit: &mut Circuit,
     alloc: Global,

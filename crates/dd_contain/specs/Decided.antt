@@ -28,7 +28,7 @@ NoneWithin T d n = (q : Periods) → AreWithin d n q → T q → ⊥
 
 -- The decision is right and comes with its evidence. Radii are from `least` to `most`, and periods are in d dimensions and at most p along each axis.
 -- Here S says that a radius suffices, and R that given steps show this. T says that some configuration of given periods shows the goal, and D that a
--- given one does.
+-- given configuration of these periods does.
 abbrev pub IsDecidedBy : (ℕ → Type 0) → (ℕ → List Step → Type 0) → (Periods → Type 0) → (Periods → Tile → Type 0) → ℕ → ℕ → ℕ → ℕ → Decision → Type 0
 IsDecidedBy S R T D least most d p (Yes n steps) = IsLeast S least most n × R n steps
 IsDecidedBy S R T D least most d p (No tile) = NoneIn S least most × ((q : Periods) × IsFirst T d p q × D q tile)

@@ -1,5 +1,5 @@
--- Whether two rules allow the same configurations. The answers to this question are called Same (YES), Differ (NO) and Open (unknown) here. Those to
--- the two box questions keep the names Yes, No and Unknown.
+-- The equality of two rules: whether no configuration that obeys one of them breaks the other. The answers to this question are called Same (YES),
+-- Differ (NO) and Open (unknown) here. Those to the two box questions keep the names Yes, No and Unknown.
 use Rattle.std.specs.Prelude.{ℕ, ◌≡◌}
 use Rattle.dd_derivation.specs.Sizes.{AreNumbered}
 use Rattle.dd_formula.specs.LocalRule.{LocalRule}
@@ -28,8 +28,8 @@ UnlessNo (No tile) P = Unit {0}
 UnlessNo (Yes n steps) P = P
 UnlessNo Unknown P = P
 
--- The answer is the join of two answers within the limits n on radii and p on periods. The left one decides whether no configuration of x breaks y,
--- and the right one whether no configuration of y breaks x. If the left answer is NO, the right one may be anything.
+-- The answer is the join of two answers within the limits n on radii and p on periods. The left one decides whether no configuration that obeys x
+-- breaks y, and the right one whether no configuration that obeys y breaks x. If the left answer is NO, the right one may be anything.
 pub record IsEqualDecided (x y : LocalRule) (n p : ℕ) (equality : Equality) : Type 0 where
   pub left : Decision
   pub right : Decision

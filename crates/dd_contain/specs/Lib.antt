@@ -4,7 +4,7 @@
 pub mod Decided
 -- which radii suffice, and which periods show the goal
 pub mod Questions
--- whether two rules allow the same configurations
+-- the equality of two rules
 pub mod Equal
 -- what a decision does with the engines of a roster
 pub mod Engines

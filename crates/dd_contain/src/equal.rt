@@ -1,5 +1,5 @@
-//! Whether two rules allow the same configurations. This comes down to two box questions: for each rule, whether none of its
-//! configurations, which are those that obey it, breaks the other rule.
+//! The equality of two rules: whether no configuration that obeys one of them breaks the other. This comes down to two box
+//! questions, each with one of the rules as its premise.
 ghost use Rattle.std.specs.Prelude.{◌≡◌, ◌≤◌, IfOk};
 ghost use Rattle.dd_boxes.specs.Goals.{breaks, IsGoalFor};
 ghost use Rattle.dd_boxes.specs.Counts.{IsSmallQuestion};
@@ -25,11 +25,11 @@ pub enum Half {
     Right,
 }
 
-/// The answer to the question whether two rules allow the same configurations.
+/// The answer to the question about the equality of two rules.
 #[derive(Debug, Drop)]
 pub enum Equality {
-    /// No configuration of either rule breaks the other. `left` answers the question whose premise is the first rule, and
-    /// `right` the other question. Each has the least radius tried that suffices for its question.
+    /// No configuration that obeys either rule breaks the other. `left` answers the question whose premise is the first rule,
+    /// and `right` the other question. Each has the least radius tried that suffices for its question.
     Yes { left: Enough, right: Enough },
     /// `periodic` obeys this side's rule, and breaks the other rule at the origin.
     No { side: Half, periodic: Periodic },
@@ -69,8 +69,9 @@ fn joined(left: Decision, right: Decision) -> Equality
     }
 }
 
-/// Decides whether two rules allow the same configurations. The left question asks whether no configuration of `left` breaks
-/// `right`. The right question exchanges the two rules. Limits and roster are used as in `decide`. The answer is:
+/// Decides the equality of two rules. The left question asks whether no configuration that obeys `left` breaks `right`. The
+/// right question asks whether no configuration that obeys `right` breaks `left`. The limits and the roster are used as in
+/// `decide`. The answer is:
 /// - NO, with the left side, if the left answer is NO;
 /// - otherwise NO, with the right side, if the right answer is NO;
 /// - otherwise YES if both answers are YES;

@@ -1,17 +1,19 @@
-//! Decides box questions, and whether two rules allow the same configurations. A box question has a rule, the premise, and a
-//! goal: a property of a position, such as that a given rule is broken there. It asks whether no configuration that obeys the
-//! premise has the goal at any position.
+//! Decides box questions, and the equality of two rules. A cell is a position of Z^d together with one of its nodes. A
+//! configuration gives each cell a symbol that the cell's node allows. It obeys a rule if the rule is true at every cell, and
+//! breaks it otherwise. Two rules are equal if no configuration that obeys one of them breaks the other. A box question has a
+//! rule, the premise, and a goal: a property of a position, such as that a given rule is broken there. It asks whether no
+//! configuration that obeys the premise has the goal at any position.
 //!
-//! The box of radius n consists of the positions of Z^d whose coordinates are from -n to n. A cell is a position together with
-//! one of its nodes. The search goes through boxes of growing radius, until one has no admissible filling with the goal at the
-//! origin: its radius suffices. (A filling gives each cell of the box a symbol that the cell's node allows. It is admissible if
-//! the premise is true at each of its cells where all that the premise reads has a symbol.)
+//! The box of radius n consists of the positions of Z^d whose coordinates are from -n to n. The search goes through boxes of
+//! growing radius, until one has no admissible filling with the goal at the origin: its radius suffices. (A filling gives each
+//! cell of the box a symbol that the cell's node allows. It is admissible if the premise is true at each of its cells where
+//! all that the premise reads has a symbol.)
 //!
 //! If none of the radii that may be tried suffices, the search goes through tori of growing volume. A torus stands for the
 //! configurations that repeat along the vectors `(x, 0, 0)`, `(shear, y, 0)` and `(0, 0, z)`. Here x, y and z are its periods,
 //! and its volume is their product. Where periods are compared or asked about, they include the shear. A configuration shows
 //! the goal if it obeys the premise and has the goal at the origin. Periods show the goal if some configuration with these
-//! periods shows it. The search stops at the first such periods.
+//! periods shows it. The search stops at the first periods that show the goal.
 //!
 //! Each box and each torus becomes a list of clauses. The clauses can be satisfied exactly when the box has an admissible
 //! filling with the goal at the origin, or the torus has a configuration that shows the goal. A refutation of clauses is a list

@@ -40,8 +40,8 @@ fn evidence(alloc: Global, cnf: &Cnf, steps: Items<Step>) -> Result<Items<Step>,
     Ok(used)
 }
 
-/// Whether the clauses can be satisfied, with evidence. This is the proposal of an engine of the roster, if one makes a right
-/// proposal. Otherwise it is what the solver finds in the given style.
+/// Whether the clauses can be satisfied, with evidence. The result is the proposal of an engine of the roster, if one makes a
+/// right proposal. Otherwise it is what the solver finds in the given style.
 fn outcome<E: Engine>(
     alloc: Global,
     cnf: &Cnf,

@@ -1,5 +1,5 @@
--- What one pass of the loop over symbols adds if the symbol alone doesn't weigh enough: nothing (the lemmas `none_..`), or an And gate and its signal
--- (the lemmas `some_..`).
+-- What one pass of the loop over symbols adds if the symbol alone doesn't weigh more than t: nothing (the lemmas `none_..`), or an And gate and its
+-- signal (the lemmas `some_..`).
 use Rattle.std.proofs.Common.{◌≡◌, ℕ, suc, ◌+◌, ◌<◌, ◌≤◌, List, [], ◌∷◌, ◌++◌, length, get_or, refl, ap, sym, subst, ◌∙◌, arith, Some}
 use Rattle.std.proofs.lemmas.{List.append-nil, Option.slice_get_read, Option.slice_get_past}
 use Rattle.std.specs.Prelude.{◌-◌, slice_get}

@@ -1,8 +1,8 @@
 -- the gates that say how much the first cells weigh
 pub mod Counter
--- the clauses that ask for a living configuration whose weight is below a bound, and what it means that clauses ask for one
+-- the clauses that ask for a living configuration whose weight is below a bound, and what it means for clauses to ask for one
 pub mod Weights
--- living configurations, their least weight, and what it means that the result of the search for it is right
+-- living configurations, their least weight, and when the result of the search for the least weight is right
 pub mod Least
 -- the laws of the least weight: what a refutation of the clauses in `Weights` says about the weights of all living configurations, and facts about
 -- these clauses

@@ -29,9 +29,9 @@ pub record IsLightWitness (x : LocalRule) (periods : Periods) (ws : List ℕ) (b
   pub witness : IsWitness x always t
   pub light : IsLight below ws t
 
--- Each assignment that satisfies the clauses stands for a light living configuration, and each light living configuration has such an assignment that
--- stands for it. An assignment stands for a configuration if, for each cell, the input of the cell's symbol is true, and the cell's other inputs are
--- false.
+-- Each assignment that satisfies the clauses stands for a light living configuration, and for each light living configuration there is an assignment
+-- that satisfies the clauses and stands for it. An assignment stands for a configuration if, for each cell, the input of the cell's symbol is true,
+-- and the cell's other inputs are false.
 pub record ShowsWeights (clauses : List (List Literal)) (x : LocalRule) (periods : Periods) (ws : List ℕ) (below : ℕ) : Type 0 where
   pub each : (set : ℕ → Bool) → Satisfies set clauses → (t : Tile) × IsLightWitness x periods ws below t × AreRead set x.symbols t.symbols
   pub every : (t : Tile) → IsLightWitness x periods ws below t → (set : ℕ → Bool) × Satisfies set clauses × AreRead set x.symbols t.symbols

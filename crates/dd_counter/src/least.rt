@@ -1,8 +1,8 @@
 //! The search for a living configuration of least weight. It consists of several searches. The first one asks for any living
 //! configuration. A local search replaces the result by a lighter configuration, if it can. Each later search asks for a
-//! configuration that is lighter than the last one found. This one has the least weight once it weighs 0, or once a refutation
-//! shows that none is lighter. While the weight may still be far above the least weight, a search asks for a much lighter
-//! configuration, so that few searches are needed.
+//! configuration that is lighter than the last one found. The last one found has the least weight if it weighs 0, or if a
+//! refutation shows that none is lighter. While the weight may still be far above the least weight, a search asks for a much
+//! lighter configuration, so that few searches are needed.
 ghost use Rattle.std.specs.Prelude.{◌≡◌, ◌≤◌, ◌*◌, ◌↔◌, length, All, IfOk};
 ghost use Rattle.dd_values.specs.Bounds.{most_weight};
 ghost use Rattle.dd_pattern.specs.Periods.{periods_of, periods_volume};
@@ -130,10 +130,10 @@ fn lightened(
 }
 
 /// The descent: finds a living configuration that weighs at most `NEAR` more than the least weight. The first configuration is
-/// the one that `lightened` gives for `start`. Then each search asks for one that is lighter by more than `step` than the last
-/// one found. A success doubles `step`. A refutation sets `step` back to `NEAR`, and raises `refuted`. No living configuration
-/// weighs less than `refuted`. So where a search would ask for a weight below `refuted`, it asks for the weight `refuted`
-/// instead.
+/// the one that `lightened` gives for `start`. Then each search asks for a configuration that is more than `step` lighter than
+/// the last one found. A success doubles `step`. A refutation sets `step` back to `NEAR`, and raises `refuted`. No living
+/// configuration weighs less than `refuted`. So where a search would ask for a weight below `refuted`, it asks for the weight
+/// `refuted` instead.
 fn descended(
     alloc: Global,
     rule: &Rule,

@@ -10,8 +10,8 @@
 //! periods and shear, and gives each cell a symbol that the cell's node allows.
 //!
 //! Clauses ask for configurations of some kind if the assignments that satisfy the clauses stand for exactly these
-//! configurations. A refutation is a list of steps that show that no assignment satisfies the clauses, so there is no such
-//! configuration.
+//! configurations. A refutation is a list of steps that show that no assignment satisfies the clauses, so no configuration is
+//! of this kind.
 #![tactic(auto)]
 
 mod counter;

@@ -14,8 +14,8 @@ use crate::torus_rule::TorusRule;
 use dd_formula::Rule;
 use std::alloc::{AllocError, Global};
 
-/// How much the search may cost until it finds a lighter configuration. Once it has cost this much without finding one, it ends.
-/// This much work takes a few milliseconds.
+/// How much the search may cost until it finds a lighter configuration. The cost is an estimate of the work. Once the search
+/// has cost this much without finding a lighter configuration, it ends. This much work takes a few milliseconds.
 const PATIENCE: u64 = 100_000;
 
 /// How much the whole search may cost. Once it has cost this much, it makes no more steps. This much work takes about a second.
@@ -153,7 +153,8 @@ impl<'a> LocalSearch<'a> {
     }
 
     /// Gives each cell in turn the lightest allowed symbol under which the rule stays true everywhere. The rule has to be true
-    /// at each cell when this begins. The patience starts anew.
+    /// at each cell when the call begins. Then sets the patience to `PATIENCE`, or to what is left of the budget if that is
+    /// less.
     fn lighten_all(&mut self) {
         for cell in 0..self.symbols.len() {
             for symbol in 0..self.rule.symbols() {

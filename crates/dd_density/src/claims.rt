@@ -1,9 +1,10 @@
-//! Whether a closed walk, potentials or ranks are right for a transfer graph. A state consists of consecutive slices. The
-//! number of its last slice is the state's number modulo `graph.slices()`. An edge by a slice leads from a state to the state
-//! that results if the first slice is dropped and this slice is appended. The edge weighs as much as this slice. Potentials
-//! are right for the mean of the closed walk if there is a potential for each state, and the potential rises along each edge by
-//! at most the edge's bound. The bound of an edge of weight `w` is `mean.denominator * w - mean.numerator`. Ranks are right if
-//! there is a rank for each state, and the rank falls along each edge.
+//! Whether a closed walk, potentials or ranks are right for a transfer graph. A state consists of consecutive slices. States
+//! and slices are numbered from 0. The number of a state's last slice is the state's number modulo `graph.slices()`. An edge
+//! by a slice leads from a state to the state that results if the first slice is dropped and this slice is appended. The edge
+//! weighs as much as this slice. Potentials are right for the mean of the closed walk if there is a potential for each state,
+//! and the potential rises along each edge by at most the edge's bound. The bound of an edge of weight `w` is
+//! `mean.denominator * w - mean.numerator`. Ranks are right if there is a rank for each state, and the rank falls along each
+//! edge.
 ghost use Rattle.std.specs.Prelude.{◌≡◌, ℕ, ◌*◌, ◌%◌, ◌<◌, ◌≤◌, ◌^◌, ◌↔◌, IsTrue, MatchOption, Some, length, pos, ◌-ℤ◌, ◌≤ℤ◌};
 ghost use Rattle.dd_transfer.specs.Graphs.{next_of, weight_at, IsTransfer};
 ghost use Rattle.dd_meancycle.specs.Means.{IsCycle, ArePotentials, weight_of};

@@ -1,7 +1,9 @@
 //! The least density of the configurations that live on a strip, with its certificate, and the check of such certificates. A
-//! strip has periods along y and z, and no end along x. A configuration lives on the strip if each cell has a symbol that its
-//! node allows, it obeys a given rule everywhere, and it stays the same when it is moved by the strip's period along y, by that
-//! along z, or by some period along x. Each symbol has a weight, and the density of a configuration is its weight per position.
+//! strip has periods along y and z, and no end along x. Each position of Z^d has one or more nodes. A cell is a position
+//! together with one of its nodes. A configuration lives on the strip if it gives each cell a symbol that the cell's node
+//! allows, obeys a given rule everywhere, and stays the same when it is moved by the strip's period along y, by the strip's
+//! period along z, or by some period along x. Each symbol has a weight, and the density of a configuration is its weight per
+//! position.
 //!
 //! The certificate speaks of the transfer graph (see `dd_transfer`). A slice of the strip gives a symbol to each cell at one
 //! value of x. It weighs as much as its symbols together. A state of the graph consists of consecutive slices. An edge leads
@@ -9,14 +11,16 @@
 //! as the appended slice. States are numbered from 0. A walk is given by the numbers of its states. Potentials and ranks are
 //! listed in the order of the states.
 //!
-//! The certificate is a closed walk with a potential for each state. The mean of a closed walk is its weight divided by its
-//! number of edges. The density of the walk is this mean divided by the number of positions in a slice. Let m / l be the mean
-//! in lowest terms. Along each edge of weight w, the potential rises by at most l * w - m. If no configuration lives on the
-//! strip, the certificate is a rank for each state. The rank falls along each edge.
+//! If some configuration lives on the strip, the certificate is a closed walk with a potential for each state. The mean of a
+//! closed walk is its weight divided by its number of edges. The density of the walk is this mean divided by the number of
+//! positions in a slice. Let m / l be the mean in lowest terms. Along each edge of weight w, the potential rises by at most
+//! l * w - m.
 //!
-//! A call needs periods from 1 to 64, and a period of 1 along each axis beyond the rule's dimension. There is one weight for
-//! each symbol, and it is at most 1,000. The transfer graph must have at most 4,096 states and at most 131,072 windows. A
-//! window is a state followed by one more slice.
+//! If no configuration lives on the strip, the certificate is a rank for each state. The rank falls along each edge.
+//!
+//! A call needs periods from 1 to 64, and a period of 1 along each axis beyond the rule's dimension. There must be one weight
+//! for each symbol, and each weight must be at most 1,000. The transfer graph must have at most 4,096 states and at most
+//! 131,072 windows. A window is a state followed by one more slice.
 #![tactic(auto)]
 
 mod answer;

@@ -26,8 +26,8 @@ use std::alloc::Global;
 ///
 /// # Errors
 /// - `Large` if the program exceeds a limit on its size (see `program_of`).
-/// - `Overflow` if a number of the run is greater than 2^127 - 1 in absolute value, or if the least common denominator of its
-///   result, or a numerator over it, is greater than 2^40.
+/// - `Overflow` if a number of the run is greater than 2^127 - 1 in absolute value, or if the least common denominator of the
+///   run's result, or a numerator over this denominator, is greater than 2^40.
 /// - `Pivots` if the run has not ended after `pivots` pivots.
 /// - `Memory` if memory ran out.
 pub fn discharge(

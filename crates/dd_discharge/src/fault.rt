@@ -12,8 +12,8 @@ pub enum DischargeFault {
     /// The program exceeds a limit on its size.
     #[error("the program of the discharge is too large")]
     Large,
-    /// A number of the simplex run is greater than 2^127 - 1 in absolute value, or the least common denominator of its result,
-    /// or a numerator over it, is greater than 2^40.
+    /// A number of the simplex run is greater than 2^127 - 1 in absolute value, or the least common denominator of the run's
+    /// result, or a numerator over this denominator, is greater than 2^40.
     #[error("a number of the discharge is too large")]
     Overflow,
     /// The simplex run needs more pivots than its limit allows.

@@ -1,6 +1,6 @@
--- The walk back from a conflict. At each point, the entries still to be visited make some literals false. Take any of these literals as false, but at
--- least all those of marked variables. Then the hints found so far lead to the conflict. In the end no entry is left, so no literal is taken as
--- false.
+-- The walk back from a conflict. At each point, the entries still to be visited make some literals false. Take some of these literals as false,
+-- including all those of marked variables. Whichever are taken, the hints found so far lead to a conflict. In the end no entry is left, so no literal
+-- is taken as false.
 use Rattle.std.proofs.Common.{◌≡◌, ℕ, zero, suc, ◌+◌, ◌<◌, Bool, true, false, cond, not, ◌&&◌, List, [], ◌∷◌, ◌++◌, Some, refl, ap, sym, ◌∙◌, subst, inl, inr, ◌⊎◌, length, get_or, take, reverse, arith, add-one}
 use Rattle.std.proofs.lemmas.Bool.{cases_Bool, or_cases, or_left, or_right, false≢true}
 use Rattle.std.proofs.lemmas.List.{take_more, take_all, reverse-append, map-append, Folds.list_any-append}
@@ -20,8 +20,8 @@ filter_same : (p q : Literal → Bool) (c : List Literal) → ((x : Literal) →
 filter_same p q [] same = refl
 filter_same p q (y ∷ c) same = rw (same y (in_here c y), filter_same p q c (λ x i. same x (or_right _ _ i))) refl
 
--- Let xs be the literals of a clause that are not false. If each literal that is false by q is false by p, and p finds a conflict or a forced literal
--- in xs, then q finds the same.
+-- Let xs be the literals of a clause that are not false, by p and by q alike. If each literal that is false by q is false by p, and p finds a
+-- conflict or a forced literal in xs, then q finds the same.
 fewer_false : (p q : Literal → Bool) (xs : List Literal) (f : Finding) → ((x : Literal) → p x ≡ false → q x ≡ false) → (f ≡ Open → ⊥) → finding_of p xs ≡ f → finding_of q xs ≡ f
 fewer_false p q [] f fewer shut is = is
 fewer_false p q (y ∷ xs) f fewer shut is = go (list_all (same_literal y) xs) (p (negation y)) refl is
@@ -36,17 +36,17 @@ fewer_false p q (y ∷ xs) f fewer shut is = go (list_all (same_literal y) xs) (
 same_finding : (p q : Literal → Bool) (c : List Literal) (f : Finding) → ((x : Literal) → p x ≡ false → q x ≡ false) → ((x : Literal) → In c x → p x ≡ q x) → (f ≡ Open → ⊥) → finding p c ≡ f → finding q c ≡ f
 same_finding p q c f fewer same shut is = fewer_false p q (filter (λ x. not (q x)) c) f fewer shut (subst (λ (xs : List Literal). finding_of p xs ≡ f) (filter_same p q c same) is)
 
--- The literals of `start` may be taken as false before the entry at place i: the earlier entries make them false, and they include all
--- such literals of marked variables.
+-- The literals of `start` may be taken as false before the entry at place i: the earlier entries make each of them false. If the earlier
+-- entries make a literal of a marked variable false, that literal is in `start`.
 pub record Start (entries : List Entry) (i : ℕ) (marked : List Bool) (start : List Literal) : Type 0 where
   pub within : (x : Literal) → In start x → In (falses (take i entries)) x
   pub marked_in : (x : Literal) → In (falses (take i entries)) x → marks marked x ≡ true → In start x
 
--- from each such start, the hints lead to a conflict
+-- if the literals of any `start` (see `Start`) are taken as false, the hints lead to a conflict
 pub record Leads (cs : List (List Literal)) (entries : List Entry) (i : ℕ) (marked : List Bool) (hints : List ℕ) : Type 0 where
   pub leads : (start : List Literal) → Start entries i marked start → is_conflict (alive cs) start hints ≡ true
 
--- if all variables of a clause are marked, each such start finds the same conflict or forced literal for it as all the earlier entries do
+-- if all variables of a clause are marked, `start` gives the same conflict or forced literal for the clause as all the earlier entries do
 from_start : (entries : List Entry) (i : ℕ) (marked : List Bool) (start c : List Literal) (f : Finding) → Start entries i marked start → AreMarked marked c → (f ≡ Open → ⊥) → finding (is_among (falses (take i entries))) c ≡ f → finding (is_among start) c ≡ f
 from_start entries i marked start c f s m shut is = same_finding (is_among (falses (take i entries))) (is_among start) c f fewer same shut is
   where

@@ -80,7 +80,7 @@ chain_next links at link linked is =
     ∙ ap (λ (o : Option Link). option_map_or (λ l. l.number ∷ along at links l.next) o []) is
     ∙ ap (λ (ks : List ℕ). link.number ∷ ks) (along_enough links linked at link.next link.next (linked at link is) (omega arith))
 
--- the same for a chain given by the number of its first link, counted from 1; in addition, the next link has a smaller number
+-- like `chain_next`, for a chain that is given by the number of its first link, counted from 1; in addition, the next link has a smaller number
 pub chain_at : (links : List Link) (at k : ℕ) (link : Link) → AreLinked links → at ≡ k + 1 → at ≤ length links → link ≡ get_or links k link → (chain_of links at ≡ link.number ∷ chain_of links link.next) × (link.next < at)
 chain_at links at k link linked is few read =
     let there : slice_get links k ≡ Some link = slice_get-get_or links k link (omega (arith, is, few)) ∙ ap (λ (l : Link). Some l) (sym read) in

@@ -110,8 +110,8 @@ alike n j k less none =
     let here : 0 + j ≡ j = omega arith in
     ap (λ (m : ℕ). m % n) (sym here) ∙ ap (λ (r : ℕ). (r + j) % n) (sym none) ∙ mod-add-mod (k - j) n j ∙ ap (λ (m : ℕ). m % n) at
 
--- The values after m flips are those after a smaller number of flips, at least j and less than k. The difference of the two numbers is
--- a multiple of the period, so the next flips pick the same literals.
+-- The values after m flips are those after a smaller number of flips, which is at least j and less than k. The difference of m and this number is a
+-- multiple of the period, so the next flips pick the same literals.
 record IsAsBefore (cnf : ClauseList) (j k period m : ℕ) : Type 0 where
   at : ℕ
   after : j ≤ at

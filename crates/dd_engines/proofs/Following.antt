@@ -161,8 +161,8 @@ follows_from_nothing cs n = record {
   trail = λ k d h. absurd (omega (arith, h));
 }
 
--- Let each literal that is false by f be false by g. Of a clause, the same literals are left whether those false by f and then those false by g are
--- taken out, or only those false by g.
+-- Let each literal that is false by f be false by g. Take the literals that are false by f out of a clause, and then those that are false by g. The
+-- literals that are left are the same as if only those that are false by g are taken out.
 filter_again : (f g : Literal → Bool) → ((l : Literal) → f l ≡ true → g l ≡ true) → (c : List Literal) → filter (λ x. not (g x)) (filter (λ x. not (f x)) c) ≡ filter (λ x. not (g x)) c
 filter_again f g below [] = refl
 filter_again f g below (x ∷ xs) = elim (cases_Bool (f x)) [
@@ -216,8 +216,8 @@ settled_of f g (y ∷ rest) settled = elim (cases_Bool (list_all (same_literal y
     made_now : Forced y ≡ Open → ⊥
     made_now e = cc
 
--- Let each literal that is false by f be false by g. If a clause is open by g, then it is open by f too, or it forces by f a literal that is
--- true by g.
+-- Let each literal that is false by f be false by g. If a clause is open by g, then by f it is open too, or it forces a literal that is true
+-- by g.
 settled_below : (f g : Literal → Bool) → ((l : Literal) → f l ≡ true → g l ≡ true) → (c : List Literal) → finding g c ≡ Open → (finding f c ≡ Open) ⊎ MadeTrue f g (filter (λ x. not (f x)) c)
 settled_below f g below c settled = settled_of f g (filter (λ x. not (f x)) c) (ap (finding_of g) (filter_again f g below c) ∙ settled)
 

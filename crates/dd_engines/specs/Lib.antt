@@ -1,4 +1,4 @@
--- how a list of engines changes when they are asked in turn, and what it means that the list is kept
+-- how a list of engines changes when its engines are asked in turn, and what it means for the list to be kept
 pub mod Rounds
 -- which proposals and outcomes are right, how a proposal changes an engine's count of proposals, and how a round ends
 pub mod Proposals

@@ -1,4 +1,4 @@
--- How a list of engines changes when they are asked in turn.
+-- How a list of engines changes when its engines are asked in turn.
 use Rattle.std.specs.Prelude.{◌≡◌, ◌≢◌, ◌⊎◌, ℕ, ◌+◌, ◌-◌, ◌^◌, ◌≤◌, List, [], ◌∷◌, Bool, true, false, IsSomeAnd, slice_get}
 use Rattle.dd_values.specs.Counts.{Rose}
 

@@ -19,8 +19,8 @@ first_unsatisfied values clauses = find (is_unsatisfied values) clauses
 abbrev pub made_true : List Bool → Literal → List Bool
 made_true values l = slice_set values (l.variable - 1) l.positive
 
--- The values after flip number k. Flips and places are counted from 0. The flip makes one literal of the clause true: the one at place
--- k % length. An empty clause has no such literal.
+-- The values after flip number k, which takes this clause. Flips and places are counted from 0. The flip makes one literal of the clause true: the
+-- literal at place k % length. An empty clause has no such literal, so there are no values after the flip.
 abbrev pub flipped : ℕ → List Bool → List Literal → Option (List Bool)
 flipped k values clause = option_map (made_true values) (slice_get clause (k % length clause))
 

@@ -82,7 +82,8 @@ impl Landmark {
     /// A period of the flips since the landmark, up to and including flip number `k`, counted from 0. `length` is the length of
     /// the clause that flip `k` takes. `period` is a period of these flips without flip `k`, or `None` if none is known. It
     /// isn't used if flip `k` is the first since the landmark. Returns `None` if `period` is needed but is `None`, if `length`
-    /// doesn't fit in 32 bits, or if the new period is greater than `most`: a walk of `most` flips has no use for it.
+    /// doesn't fit in 32 bits, or if the new period is greater than `most`: a walk of `most` flips has no use for it. But if
+    /// `length` is 0, the new period may be greater than `most`.
     pub fn period_with(&self, k: u32, period: Option<u32>, length: usize, most: u32) -> Option<u32>
         requires { IfSome period (λ t. 0 < t) }
         ensures { IfSome result (IsPeriodWith self.now.flips k period length) }

@@ -7,8 +7,9 @@
 //! propagation takes linear time.
 //!
 //! Before this, a few passes without counts are made, in both directions. They usually find all that follows, and counts cost
-//! much more. In a clause list that is made from gates, the clauses of a gate come before the clauses that use the gate. So a
-//! single pass back, from the last clause to the first, can carry a value from the last gates to the first ones.
+//! much more. In a clause list that is made from the gates of a circuit, the clauses of a gate come before the clauses that
+//! use the gate. So a single pass back, from the last clause to the first, can carry a value from the last gates to the first
+//! ones.
 ghost use Rattle.std.specs.Prelude.{◌≡◌, [], List, All, true, length, IfOk, MatchOption};
 ghost use Rattle.dd_clause.specs.Clauses.{IsClauseInRange};
 ghost use Rattle.dd_clause.specs.declared.clause.Literal.{Literal};

@@ -17,12 +17,14 @@ use crate::truths::Truths;
 use dd_clause::{Assignment, Clause, Cnf, Literal};
 use std::alloc::{AllocError, Global};
 
-/// A walk under way: the values of the variables, how many literals of each clause they make true, and an earlier assignment,
-/// by which a cycle is noticed.
+/// A walk under way.
 #[derive(Drop)]
 struct Walk {
+    /// The values of the variables.
     values: Vec<bool>,
+    /// How many literals of each clause are true under these values.
     truths: Truths,
+    /// An earlier assignment, by which a cycle is noticed.
     landmark: Landmark,
 }
 

@@ -1,5 +1,5 @@
--- Periodic configurations, as answers write them. A tile is such a configuration: its dimension, its periods, its shear, its number of nodes, and the
--- symbols of the box that repeats. The shear is how far the second period vector goes along the first axis.
+-- Periodic configurations, as answers write them. A tile stands for such a configuration: it consists of the dimension, the periods, the shear, the
+-- number of nodes, and the symbols of the box that repeats. The shear is how far the second period vector goes along the first axis.
 use Rattle.std.specs.Prelude.{ℕ, ◌≡◌, List, [], ◌∷◌, length, take, slice_index_or}
 use Rattle.dd_pattern.specs.{declared.periods.Periods.Periods, Tile.Tile, Tile.tile}
 use Rattle.dd_formula.specs.LocalRule.{LocalRule}

@@ -14,15 +14,16 @@ ghost use Rattle.dd_evidence.specs.Cells.{IsOutside};
 ghost use Rattle.dd_evidence.specs.Tiles.{IsWrittenBack};
 ghost use Rattle.dd_evidence.specs.Lists.{listed, IsForbiddenList, IsStarredList, patterns_at};
 
-/// Does nothing. Its contract is about a configuration that fits a rule (its dimension, its number of nodes and its alphabet).
-/// It says that an answer writes one period for each dimension, and that the configuration can be read back from the rule and
-/// the numbers that the answer writes.
+/// Does nothing. Its contract is about a configuration that fits a rule: it has the rule's dimension, the rule's number of
+/// nodes, and only symbols of the rule's alphabet. The contract says that an answer writes one period for each dimension, and
+/// that the configuration can be read back from the rule and the numbers that the answer writes.
 pub fn written_back()
     ensures { (x : LocalRule) (t : Tile) → IsTile t → Fits x t → IsWrittenBack x t }
 {}
 
 /// Does nothing. Its contract is about a configuration that fits a rule, and whose fundamental box (the box that repeats) has
-/// at most 65,536 symbols. It says that an output can hold the place of the first cell of this box at which the rule is false.
+/// at most 65,536 symbols. The contract says that an output can hold the place of the first cell of this box at which the rule
+/// is false.
 pub fn places_fit()
     ensures { (x : LocalRule) (t : Tile) (place : List ℤ) → IsRule x → IsPeriodic t → Fits x t → IsOutside x t place → IsWritable (answer.Outside place) }
 {}

@@ -1,14 +1,16 @@
-//! How answers write cells, configurations, and the patterns that a rule forbids. A cell is a position of Z^d together with one
-//! of its nodes. A rule reads a cell at a node if the rule's formula there asks for the cell's symbol. A filling gives each
-//! cell that the rule reads at a node a symbol of the alphabet. It breaks the rule, or is breaking, if the cells' nodes allow
-//! these symbols and the rule is false under them.
+//! How answers write cells, configurations, and the patterns that a rule forbids. Each position of Z^d has one or more nodes.
+//! A cell is a position together with one of its nodes. A configuration gives a symbol to each cell. A rule is a formula about
+//! a cell and the cells near it. It has an alphabet, and may allow only some of its symbols at a node. A rule reads a cell at
+//! a node if the rule's formula there asks for the cell's symbol. A filling gives each cell that the rule reads at a node a
+//! symbol of the alphabet. It breaks the rule, or is breaking, if the cells' nodes allow these symbols and the rule is false
+//! under them.
 //!
 //! A pattern gives allowed symbols to all, some or none of the cells that the rule reads at a node, and leaves out the others.
 //! It is forbidden if the rule is false at the node, whatever allowed symbols the other cells have. A forbidden pattern is
-//! minimal if it is no longer forbidden once any further cell is left out. The patterns of the minimal list are minimal, and
-//! together they forbid exactly what the rule forbids at the node. The list need not have all minimal patterns. An answer about
-//! forbidden patterns lists, node by node, the breaking fillings, which are the forbidden patterns that leave out no cell. An
-//! answer about minimal patterns has the minimal list of each node.
+//! minimal if it is no longer forbidden once any further cell is left out. For each node, `dd_minimal` defines one list of
+//! minimal patterns, the minimal list. Its patterns together forbid exactly what the rule forbids at the node. The list need
+//! not have all minimal patterns. An answer about forbidden patterns lists, node by node, the breaking fillings, which are the
+//! forbidden patterns that leave out no cell. An answer about minimal patterns has the minimal list of each node.
 #![tactic(auto)]
 
 mod laws;

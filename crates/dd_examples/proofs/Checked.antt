@@ -12,7 +12,7 @@ use Rattle.dd_examples.specs.Checked.{IsRight, IsRightAt, AreRightTo, AreRight}
 pub has_query_at : (s : Parts) (before number : ℕ) → before < length s.queries → number ≡ before + 1 → HasQuery s number
 has_query_at s before number less at = record { numbered = omega (arith, at); within = omega (arith, at, less) }
 
--- the answer after `done` others has the next number
+-- the answer at the index `done` has the number `done + 1`
 there : (answers : List Answer) (done : ℕ) (a : Answer) → done < length answers → a ≡ get_or answers done a → slice_get answers (done + 1 - 1) ≡ Some a
 there answers done a less at =
     let place : done ≡ done + 1 - 1 = omega arith in
@@ -28,7 +28,8 @@ right_at s answers done a less at = (
 pub none_yet : (s : Parts) (answers : List Answer) → IsTrue true ↔ AreRightTo s answers 0
 none_yet s answers = (λ yes number low high. absurd (omega (arith, low, high)), λ all. refl)
 
--- if `before` says whether the first answers are right, and `this` whether the next one is, then both together say whether all of these are right
+-- if `before` says whether the first `done` answers are right, and `this` whether the next one is, then `before && this` says
+-- whether all of these are right
 pub right_next : (s : Parts) (answers : List Answer) (done : ℕ) (a : Answer) (before this : Bool) → done < length answers → a ≡ get_or answers done a
     → (IsTrue before ↔ AreRightTo s answers done) → (IsTrue this ↔ IsRight s (done + 1) a)
     → IsTrue (before && this) ↔ AreRightTo s answers (done + 1)

@@ -17,17 +17,18 @@ use dd_topology::{Kind, Sets, Topology};
 use dd_values::Limits;
 use std::alloc::{AllocError, Global};
 
-/// Why the question was not asked.
+/// Why there is no answer.
 #[derive(Debug, Drop)]
 pub enum Unasked {
     /// There are more than 4 nodes, no symbols, or more than 16 symbols.
     Numbers,
-    /// The formula names something that doesn't exist, or is too deep.
+    /// The formula names something that doesn't exist, or passes a limit on moves, balls, radii or depth.
     Formula,
     /// The rule reads a cell that is too far away, or its formula is too large once its quantifiers are expanded, or memory ran
     /// out.
     Rule(RuleFault),
-    /// The question isn't well formed or exceeds a limit, or memory ran out.
+    /// The limits are out of range, or the question's parts don't fit together, or the question exceeds a limit on its work, or
+    /// memory ran out.
     Question(QuestionFault),
     /// Memory ran out.
     Memory,
@@ -73,8 +74,9 @@ fn rule_of(
     Ok(Rule::new(alloc, topology, &sets, formula)?)
 }
 
-/// A right answer to a question, or an error if the question isn't well formed or exceeds a limit. The roster has no engines, so
-/// none is asked before the search.
+/// A right answer to a question. The call fails if the limits are out of range, if the question's parts don't fit together, if
+/// the question exceeds a limit on its work, or if memory runs out. The roster has no engines, so none is asked before the
+/// search.
 fn answer_to(alloc: Global, question: Question, limits: &Limits) -> Result<Answer, Unasked>
     ensures { IfOk result (λ answer. IsRightTo limits.now (asked_of question.entry) answer) }
 {

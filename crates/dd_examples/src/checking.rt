@@ -10,7 +10,7 @@ use dd_output::{CertificateFault, Output, read_output};
 use dd_script::{Script, ScriptFault, ScriptKind, parse};
 use std::alloc::{AllocError, Global};
 
-/// Why an output isn't checked.
+/// Why bytes aren't checked.
 #[derive(Debug, Drop)]
 pub enum Unchecked {
     /// The bytes aren't the text of an output, or memory ran out.
@@ -55,8 +55,8 @@ pub fn are_right(alloc: Global, script: &Script, answers: &[Answer]) -> Result<b
     Ok(all)
 }
 
-/// Whether each query of the output's script has exactly one answer, and each answer is a certificate; or why the script is
-/// refused.
+/// Whether each query of the output's script has exactly one answer, and each answer is a certificate. The error says why the
+/// script is refused, or that memory ran out.
 fn judged(alloc: Global, output: &Output) -> Result<bool, ScriptFault>
     requires { IsWritableOutput output.now }
     ensures judged { IfOk result (IsJudged output.now) }

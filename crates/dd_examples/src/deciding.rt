@@ -1,4 +1,4 @@
-//! Reading a script, and the first line of the answer to each of its queries.
+//! Reading a script, and finding the first line of a right answer to each of its queries.
 ghost use Rattle.std.specs.Prelude.{◌≤◌, length, Contains, IfOk, IfErr};
 ghost use Rattle.dd_values.specs.Bounds.{most_script};
 ghost use Rattle.dd_script.specs.Parts.{Parts};
@@ -45,7 +45,8 @@ pub fn lines_of(alloc: Global, script: &Script) -> Result<Vec<u8>, AllocError>
     Ok(text)
 }
 
-/// The first lines of right answers to the queries of the script that the bytes spell, or why the bytes are refused.
+/// The first lines of right answers to the queries of the script that the bytes spell. The error says why the bytes are refused,
+/// or that memory ran out.
 pub fn answered(alloc: Global, bytes: &[u8]) -> Result<Vec<u8>, ScriptFault>
     requires { length bytes.now ≤ most_script }
     ensures lines { IfOk result (λ text. (s : Parts) × Spells bytes.now s × AreLines s 1 s.queries text.items) }

@@ -40,8 +40,8 @@ impl Engine for Guess {
 }
 
 /// An assignment that satisfies the clauses, if they are satisfied with all variables false or with all variables true;
-/// otherwise `None`. Nothing is proved about the engines. The outcome is right all the same, since the roster checks what they
-/// propose.
+/// otherwise `None`. It isn't proved that what the engines propose is right. The outcome is right all the same, since the roster
+/// checks each proposal.
 pub fn guessed(alloc: Global, cnf: &Cnf) -> Result<Option<Outcome>, AllocError>
     ensures { IfOk result (λ answer. IfSome answer (IsRightOutcome cnf.now)) }
 {

@@ -3,7 +3,8 @@ use Rattle.std.proofs.Common.{◌≡◌, ℕ, ◌+◌, ◌<◌, List, [], ◌∷
 use Rattle.std.proofs.lemmas.Grind.{common_steps}
 use Rattle.dd_faults.specs.{Tree.Fault, Repeats.first_repeat, lemmas.Repeats.among, lemmas.Repeats.not_among}
 
--- if the first item repeats one that was seen, its fault is the result; otherwise the search goes on with the rest
+-- If the first item repeats one that was seen, the result is the first item's fault (`twice_first`). Otherwise the search goes on with the rest
+-- (`fresh_first`).
 module _ {X : Type 0} (key : X → List ℕ) (f : X → Fault) (seen : List (List ℕ)) (x : X) (rest all : List X) where
   pub twice_first : all ≡ x ∷ rest → Contains seen (key x) → first_repeat key f seen all ≡ f x ∷ []
   twice_first is there = rw (is, among seen (key x) there) refl

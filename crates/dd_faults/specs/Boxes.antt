@@ -45,8 +45,8 @@ abbrev pub box_fits : Context → Vector → Option Vector → ℕ → Bool
 box_fits x periods shear count =
     has_entries (dimension_of x.known) periods && shear_fits (dimension_of x.known) shear && cells_of x periods == count
 
--- The faults of a configuration's periods, shear and number of symbols. If these fit, no period is 0, since there are as many
--- cells as symbols, and at least one symbol. So there is no test for a period of 0.
+-- The faults of a configuration's periods, shear and number of symbols. If these fit, no period is 0, since there are as many cells as symbols, and
+-- there is at least one symbol. So there is no test for a period of 0.
 abbrev pub box_faults : Context → Vector → Option Vector → ℕ → List Fault
 box_faults x periods shear count =
     if box_fits x periods shear count then over (nat_lt most_in_box count || nat_le (period_at x.text periods 0) (shear_of x.text shear)) Limit.Periods

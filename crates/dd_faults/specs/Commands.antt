@@ -16,7 +16,7 @@ use Rattle.dd_faults.specs.Repeats.{twice_named, twice_labelled, twice_vectors}
 
 -- ---- the header
 
--- the built-in topology of this kind has the script's dimension and, if the script has named its nodes, as many nodes
+-- the built-in topology of this kind has the script's dimension and, if the script has named its nodes, as many nodes as the script
 abbrev pub kind_fits : Known → Kind → Bool
 kind_fits k t = (grid_of t).dimension == dimension_of k && (not k.nodes_are_given || length k.setting.nodes == (grid_of t).nodes)
 
@@ -44,8 +44,7 @@ case_faults x c = formula_faults x c.condition [] ++ missing x.text x.known.sett
 
 -- ---- queries
 
--- the fault of a word that names nothing of its role; the role says whether the word must name a rule, an automaton or a
--- configuration
+-- the fault of a word that doesn't name what its role requires: a rule, an automaton or a configuration
 abbrev pub word_faults : Context → Role × Word → List Fault
 word_faults x w = missing x.text (named x.known w.0) (Name.Word w.1)
 

@@ -36,7 +36,7 @@ atom_faults x scope a = term_faults x scope a.term ++ relation_faults x scope a.
 abbrev pub ball_faults : Context → List Word → Ball → List Fault
 ball_faults x scope b = unknown_variable x.text scope b.centre ++ over (nat_lt widest_radius (written_value x.text b.radius)) Limit.Radius
 
--- the faults of a quantifier's variable, which must be new, and of its balls, in which the variable is not yet in scope
+-- the faults of a quantifier without its body: those of its variable, which must be new, and of its balls, in which the variable is not yet in scope
 abbrev pub quantifier_faults : Context → List Word → Word → List Ball → List Fault
 quantifier_faults x scope w balls =
     when (is_variable x.text scope w) (Fault.Twice (Name.Word w)) ++ (over (nat_lt most_balls (length balls)) Limit.Balls ++ flat_map (ball_faults x scope) balls)

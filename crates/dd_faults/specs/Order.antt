@@ -33,7 +33,7 @@ fault_rank Fault.TwiceVector = 1
 fault_rank Fault.Dimension = 2
 fault_rank (Fault.Size l) = 3 + limit_rank l
 
--- the fault found so far, after one more fault: the new one replaces an earlier one only if its rank is lower
+-- the fault to keep after one more fault is noted: the new fault if none was kept before or if the new one's rank is lower, otherwise the old fault
 abbrev pub better : Option Fault → Fault → Option Fault
 better None f = Some f
 better (Some g) f = if nat_lt (fault_rank f) (fault_rank g) then Some f else Some g

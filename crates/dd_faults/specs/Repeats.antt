@@ -24,8 +24,8 @@ twice_label e = Fault.Twice (Name.Word e.label)
 abbrev pub twice_labelled : List ℕ → List Edge → List Fault
 twice_labelled bytes es = first_repeat (edge_key bytes) twice_label [] es
 
--- The key of an entry of at most `farthest` in absolute value is its value. The key of any other entry is its text in the script. A comma follows. So
--- two vectors of small entries have the same key exactly when they have the same values.
+-- The key of an entry: its value if that is at most `farthest` in absolute value, otherwise its text in the script. A comma follows. So two vectors
+-- whose entries are all at most `farthest` in absolute value have the same key exactly when their entries have the same values.
 abbrev pub entry_key : List ℕ → Entry → List ℕ
 entry_key bytes e = (if nat_lt farthest (entry_value bytes e) then number_text bytes (entry_number e) else signed_decimal (signed_value bytes e)) ++ codes ","
 

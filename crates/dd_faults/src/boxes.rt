@@ -107,8 +107,8 @@ fn shear_fits(dimension: u32, shear: &Option<Vector>) -> bool
 }
 
 /// Whether there is exactly one period for each axis, the shear fits, and there is exactly one symbol for each cell of the
-/// fundamental box. `count` is the number of symbols. It is below `u32::MAX`, where the number of cells is cut off. So a number
-/// of cells that was cut off never equals it.
+/// fundamental box. `count` is the number of symbols. It must be below `u32::MAX`, where the number of cells is cut off. So a
+/// number of cells that was cut off never equals `count`.
 fn box_fits(context: &Context, periods: &Vector, shear: &Option<Vector>, count: usize) -> bool
     requires { count < 4294967295 }
     ensures { result ≡ box_fits context.now periods.now shear.now count }

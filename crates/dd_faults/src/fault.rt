@@ -27,20 +27,20 @@ pub enum Limit {
     /// A weight is at most `MOST_WEIGHT`.
     Weight,
     /// In the limits of searches, the radius is at most `GREATEST_RADIUS`, the period is from 1 to `GREATEST_PERIOD`, and the
-    /// number of pivots is at most `MOST_PIVOTS`.
+    /// number of pivots of the simplex method is at most `MOST_PIVOTS`.
     Limits,
     /// A term makes at most `MOST_MOVES` moves.
     Moves,
-    /// A discharge query has two numbers, its radius and its margin. Each of them, and the radius of a ball, is at most
+    /// A discharging query has two numbers, its radius and its margin. Each of them, and the radius of a ball, is at most
     /// `WIDEST_RADIUS`.
     Radius,
     /// A quantifier ranges over at most `MOST_BALLS` balls.
     Balls,
     /// At each node, a rule or an automaton has at most 20,000 instances. Those of a rule are the constants, leaves and
-    /// connectives of its expansion, in which the quantifiers are written out. `Automaton::instances` of `dd_formula` says what
-    /// those of an automaton are.
+    /// connectives of its expansion, in which the quantifiers are written out. A leaf says that a cell has a certain symbol.
+    /// `Automaton::instances` of `dd_formula` says what the instances of an automaton are.
     Instances,
-    /// A rule or an automaton reads only cells that are at most 16 away along each axis.
+    /// At each cell, a rule or an automaton reads only cells that are at most 16 away along each axis.
     Reach,
     /// Compositions of automata are nested at most 64 deep. In a query about images or a conjugacy, the target is the rule that
     /// the images should obey. The formula that says that an image obeys the target and has allowed symbols is at most 64 deep.
@@ -50,16 +50,17 @@ pub enum Limit {
     Periods,
     /// A discharge has at most `MOST_VECTORS` vectors, with entries of at most `FARTHEST` in absolute value.
     Vectors,
-    /// If a query asks for a rule's forbidden or minimal patterns, then at each node the cells that the rule reads have at most
-    /// `MOST_PATTERNS` fillings (see `dd_counts`). Fillings with symbols that a node doesn't allow count too, here and in
-    /// `States`.
+    /// If a query asks for a rule's forbidden or minimal patterns, then at each node the cells that the rule reads have at
+    /// most `MOST_PATTERNS` fillings (see `dd_counts`). Here and in `States`, a filling gives each of its cells a symbol,
+    /// allowed there or not.
     Patterns,
-    /// A rule's transfer graph over a strip has at most `MOST_STATES` states, and there are at most `MOST_WINDOWS` windows (see
-    /// `dd_counts`). A slice consists of the strip's cells with one value of x. A state is a filling of successive slices, and
-    /// a window fills one slice more.
+    /// If a query asks for a rule's least density on a strip, then the rule's transfer graph over this strip has at most
+    /// `MOST_STATES` states, and there are at most `MOST_WINDOWS` windows (see `dd_counts`). A slice consists of the strip's
+    /// cells with one value of x. A state is a filling of successive slices, and a window fills one slice more.
     States,
-    /// A box question asks whether a goal occurs in no configuration that obeys a rule. There is an upper bound for the number
-    /// of its clauses, on its largest box or torus, and one for the number of clauses of a query for the least weight on a
+    /// A box question has a rule and a goal, which may hold at a position. It asks whether no configuration that obeys the
+    /// rule has the goal at any position. There is an upper bound for the number of the question's clauses, on the largest box
+    /// or torus that a search may try. There is another one for the number of clauses of a query for the least weight on a
     /// torus (see `dd_question`). Both bounds are at most `MOST_CLAUSES`.
     Clauses,
 }
@@ -76,7 +77,7 @@ pub enum Fault {
     TwiceVector,
     /// The dimension, or a number of nodes, symbols, weights or entries, does not fit.
     Dimension,
-    /// A limit is passed: what is said at its variant doesn't hold.
+    /// A limit is passed: the statement at its variant of `Limit` doesn't hold.
     Size(Limit),
 }
 

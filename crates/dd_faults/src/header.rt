@@ -15,7 +15,8 @@ use dd_values::{GREATEST_PERIOD, GREATEST_RADIUS, MOST_PIVOTS};
 use dd_written::{Name, Number, Text, name_text, number_value};
 use std::alloc::{AllocError, Global};
 
-/// Whether the built-in topology of this kind has the script's dimension and, if the script names its nodes, as many nodes.
+/// Whether the built-in topology of this kind has the script's dimension and, if the script has named its nodes, as many nodes
+/// as the script.
 pub(crate) fn kind_fits(alloc: Global, known: &Known, kind: Kind) -> Result<bool, AllocError>
     ensures { IfOk result (λ fits. fits ≡ kind_fits known.now kind) }
 {

@@ -1,4 +1,5 @@
-//! The faults of queries. The row of a query's kind, in the table of queries, says what its words, numbers and vectors must be.
+//! The faults of queries. In the table of queries, the row of a query's kind says what the query's words name, which vectors
+//! the query has, and how many symbols the alphabet must have at least.
 ghost use Rattle.std.specs.{Prelude.◌≡◌, Prelude.OnOk, List.flat_map, List.zip};
 ghost use Rattle.dd_faults.specs.{Order.noted, Commands.word_faults, Commands.request_faults};
 
@@ -13,8 +14,7 @@ use dd_known::{Context, MOST_VECTORS};
 use dd_written::{Name, Word};
 use std::alloc::Global;
 
-/// Notes each word that names nothing of its role. The role says whether the word must name a rule, an automaton or a
-/// configuration.
+/// Notes each word that doesn't name what its role requires: a rule, an automaton or a configuration.
 fn words(context: &Context, roles: &[Role], words: &[Word], found: &mut Found)
     ensures { found.new ≡ noted found.old (flat_map (word_faults context.now) (zip roles.now words.now)) }
 {

@@ -1,6 +1,7 @@
-//! The search for the breaking fillings. It takes the cells one by one, and tries each symbol that the cell's node allows, in
-//! order. If `Numbered::settled` finds that the rule is true whatever symbols follow, the branch ends. If it finds that the
-//! rule is false whatever symbols follow, all fillings of the branch with allowed symbols are listed.
+//! The search for the breaking fillings. The search takes the cells one by one. At each cell it tries the symbols that the
+//! cell's node allows, in order. If `Numbered::settled` finds that the rule is true whatever symbols follow, the branch ends.
+//! If it finds that the rule is false whatever symbols follow, all fillings of the branch that have only allowed symbols are
+//! listed.
 ghost use Rattle.std.specs.Prelude.{[], ◌∷◌, ◌≡◌, ◌<◌, ◌+◌, ◌++◌, length, map, OnOk};
 ghost use Rattle.std.specs.List.Sorted.{IsStrictlySortedBy};
 ghost use Rattle.dd_lattice.specs.Order.{cell_cmp};

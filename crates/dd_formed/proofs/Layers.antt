@@ -69,7 +69,7 @@ shallow_none fs many = rw (length-map fs depth, le-leb 2 (length fs) many) (none
   none : (m : ℕ) → nat_le (1 + m) 0 ≡ false
   none m = grind (arith, nat_tests)
 
--- each part is no deeper than the conjunction or disjunction, so a bound on the latter's depth holds for each part
+-- no part of a conjunction or disjunction is deeper than the whole, so a bound on the depth of the whole holds for each part
 pub parts_within : (fs : List Formula) (k n : ℕ) → k + list_depth (map depth fs) < n → All (λ f. k + depth f < n) fs
 parts_within fs k n whole i d within =
     omega (arith, whole, greatest_at fs i d within, cond_more (nat_le 2 (length (map depth fs))) (greatest (map depth fs)))

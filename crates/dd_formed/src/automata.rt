@@ -1,7 +1,7 @@
 //! Whether automata are well formed. The test copies the automaton, from its rules upwards. All rules must have a given
-//! dimension, number of nodes and number of symbols, and cases are copied only if they fit these. The parts of the copy are
-//! made by `Automaton::given` and `Automaton::composed`, which refuse a part that exceeds a limit. So, unless memory runs out,
-//! a copy is made exactly when the automaton is well formed.
+//! dimension, number of nodes and number of symbols, and cases are copied only if they fit these numbers. The parts of the copy
+//! are made by `Automaton::given` and `Automaton::composed`, which refuse a part that exceeds a limit. So, unless memory runs
+//! out, a copy is made exactly when the automaton is well formed.
 ghost use Rattle.std.specs.Prelude.{◌≡◌, ◌≢◌, ◌↔◌, ◌&&◌, IsTrue, IfOk, None, nat_lt};
 ghost use Rattle.std.specs.List.{list_all};
 ghost use Rattle.dd_formula.specs.Automata.{IsAutomaton, cases_fit, rule_has};
@@ -14,7 +14,7 @@ use std::alloc::{AllocError, Global};
 /// The numbers that the rules of a well-formed automaton have in common.
 #[derive(Clone, Copy)]
 pub struct CommonNumbers {
-    /// The dimension of the topology.
+    /// The dimension d of the lattice Z^d, whose points are the positions.
     pub dimension: u32,
     /// How many nodes each position has.
     pub nodes: u32,
@@ -86,7 +86,7 @@ fn given(
     }
 }
 
-/// What a fault means: the automaton isn't well formed (`None`), unless memory ran out (an error).
+/// What a fault means: an error if memory ran out; otherwise `None`, since the automaton isn't well formed.
 fn refused(fault: RuleFault) -> Result<Option<Automaton>, AllocError>
     ensures { IfOk result (λ none. (none ≡ None) × (fault ≢ RuleFault.Memory)) }
 {

@@ -2,11 +2,11 @@
 //! formula must exist. A label is the name of a move from one cell to another. The formula must be within the limits on its
 //! terms, its balls and its depth. `Rule::new` tests the limits on a rule's instances and reach.
 //!
-//! An automaton is given by a list of cases, each of them a rule with a symbol, and a default symbol; or it is the composition
+//! An automaton is given by a default symbol and a list of cases, each of them a rule with a symbol; or it is the composition
 //! of two automata. All its rules must have a given dimension, number of nodes and number of symbols. There must be at least
-//! one node, and each symbol that the automaton gives must exist. It must be within the limits on instances, on reach (how far
-//! away it reads cells) and on how deep its compositions are nested, and so must all automata of which it is composed. `Rule`
-//! and `Automaton::instances` say what instances are.
+//! one node, and each symbol that the automaton gives must exist. The automaton must be within the limits on instances, on
+//! reach (how far away it reads cells) and on how deep its compositions are nested, and so must all automata of which it is
+//! composed. `Rule` says what positions, nodes and cells are. `Rule` and `Automaton::instances` say what instances are.
 #![tactic(auto)]
 
 mod automata;

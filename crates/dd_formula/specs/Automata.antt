@@ -146,7 +146,7 @@ pub record HasNode (f : Automaton) (a : ℕ) : Type 0 where
   pub formed : IsAutomaton setting f
   pub below : a < setting.nodes
 
--- both automata are well formed in some setting that has the node a
+-- both automata are well formed in the same setting, which has the node a
 pub record HaveNode (f g : Automaton) (a : ℕ) : Type 0 where
   pub setting : CommonNumbers
   pub outer : IsAutomaton setting f

@@ -39,7 +39,7 @@ PassesInstances n f = is_few n f ≡ true
 abbrev pub PassesReach : ℕ → Counted → Type 0
 PassesReach n f = PassesInstances n f × (is_short n f ≡ true)
 
--- the automaton is within these limits at each of the first n nodes, and within the limit on depth
+-- the automaton is within the limits on instances and reach at each of the first n nodes, and within the limit on depth
 abbrev pub PassesDepth : ℕ → Counted → Type 0
 PassesDepth n f = PassesReach n f × (is_shallow f ≡ true)
 

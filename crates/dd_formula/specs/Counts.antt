@@ -40,8 +40,8 @@ abbrev pub broken_clauses : LocalRule → ℕ
 broken_clauses r = rule_clauses r + 1
 
 -- An upper bound on the number of clauses of a question on a region of this many positions. The question asks about fillings of the region that obey
--- the rule and have some property, the goal. `goal` is the number of clauses that say that the goal holds. A box may have fewer clauses, since the rule
--- need not be true at a cell where it reads past the border.
+-- the rule and have some property, the goal. `goal` is the number of clauses that say that the goal holds. If the region is a box, there may be fewer
+-- clauses, since the rule need not be true at a cell where it reads past the border.
 abbrev pub region_clauses : LocalRule → ℕ → ℕ → ℕ
 region_clauses r goal positions = positions * place_clauses r + goal
 
@@ -49,6 +49,6 @@ region_clauses r goal positions = positions * place_clauses r + goal
 abbrev pub largest_region : ℕ → ℕ → ℕ → ℕ
 largest_region d radius period = max ((2 * radius + 1) ^ d) (period ^ d)
 
--- the upper bound of `region_clauses` for the larger of that box and that torus
+-- the upper bound of `region_clauses` for the box of this radius or the torus with this period along each axis, whichever has more positions
 abbrev pub largest_clauses : LocalRule → ℕ → ℕ → ℕ → ℕ
 largest_clauses r goal radius period = region_clauses r goal (largest_region r.dimension radius period)

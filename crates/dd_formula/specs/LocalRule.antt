@@ -88,7 +88,7 @@ IsSmall r = (a : ℕ) → a < r.nodes → instances (expansion_at r a) ≤ most_
 abbrev pub ReadsNear : LocalRule → Type 0
 ReadsNear r = (a : ℕ) → a < r.nodes → list_all is_near (reads_at r a) ≡ true
 
--- a well-formed rule: what holds of the value of every `Rule`
+-- a well-formed rule: what holds of every `Rule`, as contracts see it
 pub record IsRule (r : LocalRule) : Type 0 where
   pub dimension : (1 ≤ r.dimension) × (r.dimension ≤ 3)
   pub nodes : (1 ≤ r.nodes) × (r.nodes ≤ 4)

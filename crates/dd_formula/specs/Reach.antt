@@ -9,7 +9,7 @@ use Rattle.dd_formula.specs.{LocalRule.LocalRule, LocalRule.cells_at, Automata.c
 abbrev pub cell_extent : Cell → ℕ
 cell_extent c = extent c.position
 
--- the greatest such distance of any of the cells; 0 if there is no cell
+-- the greatest distance of any of the cells from the origin along an axis; 0 if there is no cell
 abbrev pub farthest : List Cell → ℕ
 farthest cs = greatest (map cell_extent cs)
 

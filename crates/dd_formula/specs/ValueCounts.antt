@@ -11,9 +11,9 @@ use Rattle.dd_formula.specs.declared.automaton.Automaton.{TheFolds.fold-Automato
 abbrev pub gate_clause_count : ℕ → ℕ
 gate_clause_count k = k + 1
 
--- The number of clauses of the gates that choose among m cases. Each case has a gate over itself and the cases before it. The
--- gate says that the case's rule is true and no earlier rule is. The default symbol has a gate over all cases. This gate says
--- that no rule is true.
+-- The number of clauses of the gates that choose among m cases. Each case has a gate over one signal for its own rule and one signal for each earlier
+-- rule. The gate says that the case's rule is true and no earlier rule is. The default symbol has a gate over one signal for each rule. This gate
+-- says that no rule is true.
 abbrev pub choice_clauses : ℕ → ℕ
 choice_clauses m = total (map (λ i. gate_clause_count (i + 1)) (range_with_len 0 m)) + gate_clause_count m
 

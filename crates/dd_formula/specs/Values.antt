@@ -21,7 +21,8 @@ pub record HasLook (f : Automaton) (c : Cell) (look : Look) : Type 0 where
   pub below : c.node < setting.nodes
   pub symbols : HasSymbolsBelow setting.symbols look
 
--- the cases fit some such setting, and each cell that they read at the cell c lies in the range of positions and has a symbol
+-- The cases fit some setting that has the cell's node, and whose alphabet has all symbols that the look-up gives. Each cell that the cases read at
+-- the cell c lies in the range of positions and has a symbol.
 pub record HasCasesLook (cases : Cases) (c : Cell) (look : Look) : Type 0 where
   pub setting : CommonNumbers
   pub fit : cases_fit setting cases.cases cases.otherwise ≡ true

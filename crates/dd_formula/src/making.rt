@@ -1,5 +1,5 @@
-//! What a rule stores, above all its expansion at each node and the cells that it reads there, and copies of these two lists.
-//! The limits on instances and on reach, for rules and automata.
+//! The parts that a rule stores. The main ones are its expansion at each node and the cells that it reads at each node. These
+//! two lists can also be copied. The module also has the limits on instances and on reach, for rules and automata.
 ghost use Rattle.std.specs.Prelude.{◌≡◌, ◌<◌, ◌≤◌, ◌⊎◌, length, true, false, map, IfOk, IfErr, OnOk};
 ghost use Rattle.std.specs.List.{list_all};
 ghost use Rattle.dd_lattice.specs.InOrder.{in_order};

@@ -1,5 +1,5 @@
-//! Facts for proofs: each cell that an automaton reads has a position in Z^d and one of the nodes of its rules. Here d is the
-//! dimension of the rules.
+//! Facts for proofs: each cell that an automaton reads has a position in Z^d and one of the nodes of the automaton's rules.
+//! Here d is the dimension of the rules.
 ghost use Rattle.dd_formula.specs.Values.{CasesArePlaced, IsPlaced};
 
 use crate::automaton::{Automaton, Cases};
@@ -19,7 +19,7 @@ impl Cases {
 
 impl Automaton {
     /// Does nothing. Its contract says that each cell that the automaton reads has a position in Z^d and one of the nodes of
-    /// its rules.
+    /// the automaton's rules.
     pub fn reads_are_placed(&self)
         ensures { IsPlaced self.now }
     {

@@ -34,8 +34,8 @@ impl Cases {
 }
 
 impl Automaton {
-    /// The symbol that the automaton gives a cell. `None` if some cell that it reads there has no symbol or lies outside the
-    /// range of positions. All symbols that `read` gives must be in the alphabet.
+    /// The symbol that the automaton gives the cell `at`. `None` if some cell that the automaton reads there has no symbol or
+    /// lies outside the range of positions. All symbols that `read` gives must be in the alphabet.
     pub fn value<R: Reads>(
         &self,
         alloc: Global,

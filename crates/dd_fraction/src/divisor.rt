@@ -1,5 +1,5 @@
-//! The greatest common divisor, by Euclid's algorithm and then the binary algorithm, and quotients. Once both numbers fit in 64
-//! bits, the rest is done with machine words.
+//! Greatest common divisors and quotients. A greatest common divisor is computed by Euclid's algorithm and then the binary
+//! algorithm. Once both numbers fit in 64 bits, the rest is done with machine words.
 ghost use Rattle.std.specs.Prelude.{◌≡◌, ℕ, ◌%◌, ◌<◌, ◌≤◌, ◌/◌, ◌^◌};
 ghost use Rattle.std.specs.Int.RustNames.{unsigned_abs, int_div};
 ghost use lib.IntN.{pos};

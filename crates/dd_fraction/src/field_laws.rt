@@ -22,16 +22,16 @@ pub fn opposite_laws()
     ensures { AreOppositeLaws }
 {}
 
-/// Does nothing; its contract says that the order is reflexive, transitive, antisymmetric and total, how it goes together with
-/// the strict order, and that `Fraction::compare` follows both.
+/// Does nothing; its contract says that the order is reflexive, transitive, antisymmetric and total, how it is related to the
+/// strict order, and that `Fraction::compare` agrees with both.
 pub fn order_laws()
     ensures { AreOrderLaws }
 {}
 
-/// Does nothing; its contract says that the order is preserved by adding, and by multiplying by a factor of at least 0, and
-/// that taking opposites reverses it. It also says that a is at most b exactly when b - a is at least 0, and that sums and
-/// products of fractions of at least 0 are at least 0. Products and inverses of positive fractions are positive, and so is the
-/// sum of a positive fraction and one of at least 0.
+/// Does nothing; its contract says that inequalities can be added, that multiplying by a factor that is at least 0 preserves
+/// the order, and that taking opposites reverses it. It also says that a is at most b exactly when b - a is at least 0. Sums
+/// and products of fractions that are at least 0 are at least 0. Products and inverses of positive fractions are positive, and
+/// so is the sum of a positive fraction and one that is at least 0.
 pub fn ordered_field_laws()
     ensures { AreOrderedFieldLaws }
 {}

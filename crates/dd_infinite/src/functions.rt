@@ -72,7 +72,7 @@ pub fn configuration(script: &Script, number: usize) -> Option<&Periodic>
     let configurations = script.configurations();
     if number < configurations.len() {
         let configuration = &configurations[number];
-        // This call tells the proof what the type guarantees.
+        // This call tells the proof what the type `Periodic` guarantees.
         let _symbols = configuration.symbols();
         Some(configuration)
     } else {

@@ -33,7 +33,7 @@ most_moves = 16
 abbrev pub most_balls : ℕ
 most_balls = 4
 
--- the greatest number of cells in the fundamental box of a configuration or a torus, the box that repeats
+-- the greatest number of cells in the fundamental box (the box that repeats) of a configuration or a torus
 abbrev pub most_in_box : ℕ
 most_in_box = 65536
 

@@ -14,7 +14,7 @@ pub record IsSetting (s : Setting) : Type 0 where
   pub topology : IsGridOf (length s.nodes) s.topology
   pub nodes : (1 ≤ length s.nodes) × (length s.nodes ≤ most_nodes)
   pub symbols : (1 ≤ length s.symbols) × (length s.symbols ≤ most_symbols)
-  -- each node allows one symbol or more
+  -- each node has a set of allowed symbols, with one symbol or more
   pub sets : IsSets (length s.nodes) s.sets
   pub alphabet : s.sets.symbols ≡ length s.symbols
 

@@ -4,8 +4,8 @@ use dd_topology::{Names, Sets, Topology};
 use dd_values::{Items, Limits};
 use dd_written::Text;
 
-/// What rules and automata are made over: the nodes, the symbols, the topology, whose labels are the moves of formulas, and
-/// which symbols each node allows.
+/// What rules and automata are defined over: the nodes, the symbols, the topology, and which symbols each node allows. Each
+/// move in a formula is a label of the topology.
 #[derive(Drop)]
 pub struct Setting {
     /// The names of the nodes, in the order of their numbers.
@@ -17,7 +17,8 @@ pub struct Setting {
     pub sets: Sets,
 }
 
-/// What a script has defined so far, with defaults for the rest.
+/// What a script has defined so far, with defaults for the rest. No name is in two of the lists `rules`, `automata` and
+/// `configurations`.
 #[derive(Drop)]
 pub struct Known {
     pub setting: Setting,
@@ -29,11 +30,11 @@ pub struct Known {
     pub weights: Items<u32>,
     /// The limits of the searches.
     pub limits: Limits,
-    /// The names of the rules. This list and the next two are in the order of the definitions, and no name is in two of them.
+    /// The names of the rules, in the order of their definitions.
     pub rules: Names,
-    /// The names of the automata.
+    /// The names of the automata, in the order of their definitions.
     pub automata: Names,
-    /// The names of the configurations.
+    /// The names of the configurations, in the order of their definitions.
     pub configurations: Names,
 }
 

@@ -140,7 +140,8 @@ x_from_near n ps p h =
       is = same_place _ _ (omega (arith, ints)) (omega (arith, ints)) (omega (arith, ints));
     }
 
--- mid is what is near the list on the first axis: each position of its run along the second is near the list on both; `y_from_near` is the converse
+-- Let `mid` consist of the positions near the list on the first axis. Then each position of the run of `mid` from -n to n + 1 along the second axis is
+-- near the list on the first two axes. `y_from_near` is the converse.
 pub near_from_y : (n : ℕ) (ps mid : List Place) → IsRegionOf (IsNearby 1 n ps) mid → (p : Place) → IsStretched Y (pos 0 -ℤ pos n) (pos n +ℤ pos 1) mid p → IsNearby 2 n ps p
 near_from_y n ps mid region p h =
     let before = (region.members h.origin).0 h.member in
@@ -178,7 +179,8 @@ y_from_near n ps mid region p h =
       is = same_place _ _ (omega (arith, ints)) (omega (arith, ints)) (omega (arith, ints));
     }
 
--- mid is what is near the list on two axes: each position of its run along the third is near the list on all three; `z_from_near` is the converse
+-- Let `mid` consist of the positions near the list on the first two axes. Then each position of the run of `mid` from -n to n + 1 along the third axis
+-- is near the list on all three axes. `z_from_near` is the converse.
 pub near_from_z : (n : ℕ) (ps mid : List Place) → IsRegionOf (IsNearby 2 n ps) mid → (p : Place) → IsStretched Z (pos 0 -ℤ pos n) (pos n +ℤ pos 1) mid p → IsNearby 3 n ps p
 near_from_z n ps mid region p h =
     let before = (region.members h.origin).0 h.member in
@@ -225,7 +227,7 @@ axis_more n false false c up h = h
 active_more : (d e axis : ℕ) → d ≤ e → is_active d axis ≡ true → is_active e axis ≡ true
 active_more d e axis h a = grind (arith, nat_tests)
 
--- a position that is near the list on the first d axes, and at distance 0 on the others, is also near it on the first e axes, if e is at least d
+-- if e is at least d, a position that is near the list on the first d axes is also near the list on the first e axes
 pub near_more : (d e n : ℕ) (ps : List Place) → d ≤ e → (p : Place) → IsNearby d n ps p → IsNearby e n ps p
 near_more d e n ps more p h =
     let v = seen_from h.0 p in (

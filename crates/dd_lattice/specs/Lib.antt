@@ -1,4 +1,4 @@
--- positions, and which of them are in range, so that code can hold them
+-- positions, and which of them are in range, that is, can be held by code
 pub mod Place
 -- cells: a cell is a position and the number of a node
 pub mod Cells

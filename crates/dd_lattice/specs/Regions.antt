@@ -26,8 +26,7 @@ pub record LeavesRangeAt {X : Type 0} (position : X → Place) (S : X → Type 0
   pub member : S at
   pub outside : IsInRange (position at) → ⊥
 
--- the fault may be given in place of a list of the set S: `Range` only if some member's position is out of range, and
--- `Memory` always
+-- the fault may be given in place of a list of the members of S: `Range` only if some member's position is out of range, and `Memory` always
 abbrev pub IsFaultAt : {X : Type 0} → (X → Place) → (X → Type 0) → LatticeFault → Type 0
 IsFaultAt position S Range = LeavesRangeAt position S
 IsFaultAt position S Memory = Unit {0}

@@ -1,7 +1,8 @@
 //! The growth of a region, axis by axis. A run of n copies is the union of n copies of the region, each moved one step further
-//! along an axis than the one before. If m is at most n, the union of such a run and the same run moved by m steps is a run of
-//! n + m copies. To grow a region by r, the code makes a run of 2r + 1 copies along one axis after another. A run is doubled as
-//! long as it doesn't get too long, so it takes about log2(2r + 1) unions.
+//! along an axis than the copy before it. If m is at most n, the union of such a run and the same run moved by m steps is a
+//! run of n + m copies. To grow a region by r, the code makes a run of 2r + 1 copies along one axis after another. Each union
+//! doubles the run, except that the last union adds only the copies that are still missing. So each run takes about
+//! log2(2r + 1) unions.
 ghost use Rattle.std.specs.Prelude.{◌≡◌, ◌+◌, ◌*◌, ◌≤◌, ℤ, pos, ◌-ℤ◌, ◌+ℤ◌, ◌≤ℤ◌, MatchResult};
 ghost use Rattle.dd_lattice.specs.Place.{most_coordinate};
 ghost use Rattle.dd_lattice.specs.Regions.{IsRegionOf, IsFaultOf, IsNearby};

@@ -1,4 +1,4 @@
--- The cases of the identity, and facts on two automata carried over to automata equal to them.
+-- The cases of the identity are well formed. Facts about two automata carry over to automata that are equal to them.
 use Rattle.std.proofs.Common.{◌≡◌, ◌<◌, ℕ, zero, suc, ◌+◌, ◌-◌, [], ◌∷◌, map, refl, sym, ◌∙◌, subst, arith}
 use Rattle.std.proofs.lemmas.{Bool.lt-ltb, List.FromFn.length-map-range_with_len, List.FromFn.get_or-map-range_with_len}
 use Rattle.std.specs.{Prelude.slice_index_or, List.range_with_len, List.All}
@@ -12,7 +12,7 @@ pub single : {X : Type 0} (P : X → Type 0) (x : X) → P x → (k : ℕ) (d : 
 single P x h zero d below = h
 single P x h (suc k) d below = absurd (omega arith)
 
--- the cases of the identity
+-- each case of the identity is a formula over the topology and the alphabet, with a symbol of the alphabet
 own_case : (g : Grid) (s : SymbolSets) (t : ℕ) → t < s.symbols → IsCaseOver g s (own_symbol t)
 own_case g s t below = record {
   formula = record { numbers = fits_symbol g s t ∙ lt-ltb t s.symbols below; depth = omega (arith, depth_symbol t) };

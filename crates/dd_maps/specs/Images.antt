@@ -1,5 +1,4 @@
--- Where an image breaks a rule, and where two automata, applied one after the other, change a symbol. A look-up gives the symbol of each cell, if it
--- has one.
+-- Where an image breaks a rule, and where two automata, applied one after the other, change a symbol. A look-up gives each cell a symbol, or none.
 use Rattle.std.specs.Prelude.{ℕ, ◌<◌, ◌≡◌, ◌⊎◌, true, false, Some}
 use Rattle.dd_lattice.specs.{Place.Place, Cells.cell, declared.position.Cell.Cell}
 use Rattle.dd_pattern.specs.Reading.{Look}

@@ -1,5 +1,5 @@
--- The guarded formula of a rule: the rule is true at a cell, and the cell's symbol is one that its node allows. A cell's node is its
--- number among the cells of its position.
+-- The guarded formula of a rule: the rule is true at a cell, and the cell's symbol is one that its node allows. A cell is a position of Z^d together
+-- with one of its nodes.
 pub mod Guarded
 -- the automata of the pairs
 pub mod Pairs

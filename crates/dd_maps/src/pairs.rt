@@ -17,8 +17,9 @@ use dd_formula::{Automaton, Formula, Rule, RuleFault};
 use dd_topology::{Sets, Topology};
 use std::alloc::{AllocError, Global};
 
-/// The automaton that marks with 1 the cells at which the rule is false or whose symbol their node doesn't allow. It has a
-/// single case: it gives 0 where the guarded formula is true, and else 1. The guarded formula is the conjunction of:
+/// The automaton that marks with 1 each cell where the rule is false, or where the cell's node doesn't allow the cell's
+/// symbol. It has a single case: it gives 0 where the guarded formula is true, and else 1. The guarded formula is the
+/// conjunction of:
 /// - the rule's formula; and
 /// - for each node that doesn't allow every symbol, a guard: the cell isn't at this node, or has a symbol that the node
 ///   allows.
@@ -102,11 +103,11 @@ fn composed_with(alloc: Global, outer: Automaton, inner: &Automaton) -> Result<A
     }
 }
 
-/// Two automata, which differ at some node of a position exactly when the image under `map` breaks the target there.
+/// Two automata, which differ at some node of a position exactly when the image under `map` breaks the rule `target` there.
 ///
-/// The first is a composition: it applies `map`, and then the automaton that `marked` makes of the target. The second gives 0
+/// The first is a composition: it applies `map`, and then the automaton that `marked` makes of `target`. The second gives 0
 /// everywhere. They give a cell different symbols exactly when, in the image under `map`, the cell has a symbol that its node
-/// doesn't allow, or the target is false at the cell.
+/// doesn't allow, or `target` is false at the cell.
 ///
 /// # Errors
 /// `Depth` if the target's guarded formula is more than 64 deep. Else `Instances`, `Reach` or `Depth` if the composition

@@ -1,5 +1,5 @@
--- The edges of a graph as a list, and the paths and cycles of states that they make. What potentials and ranks say of these, and how large weights,
--- means and potentials are.
+-- The edges of a graph as a list, and the paths and cycles of states that they make. What potentials and ranks say about these paths and cycles, and
+-- how large weights, means and potentials are.
 use Rattle.std.proofs.Common.{◌≡◌, ℕ, zero, suc, ◌+◌, ◌-◌, ◌*◌, ◌/◌, ◌%◌, ◌<◌, ◌≤◌, ◌^◌, List, [], ◌∷◌, ◌++◌, map, length, get_or, Option, Some, None, arith, refl, sym, ap, ◌∙◌, subst, inl, inr}
 use Rattle.std.proofs.lemmas.{Bool.cases_lt, Int.ints, List.length-map, List.get_or_default}
 use Rattle.std.proofs.lemmas.List.Elements.{Contains-get_or, Contains-append_left, Contains-append_cases, Contains-push, All-contains}
@@ -69,7 +69,7 @@ parts_at g number e (Some v) t h =
 pub edge_parts : (g : Transfer) (number : ℕ) (e : Edge) → edge_at g number ≡ Some e → EdgeParts g number e
 edge_parts g number e h = parts_at g number e (next_of g (number / g.slices) (number % g.slices)) refl h
 
--- an edge of the list is an edge of the graph, by the last slice of the state to which it leads
+-- an edge of the list is an edge of the graph, and its slice is the last slice of the state to which it leads
 pub record Edged (g : Transfer) (e : Edge) : Type 0 where
   pub next_is : next_of g e.from (e.to % g.slices) ≡ Some e.to
   pub weight_is : e.weight ≡ weight_at g (e.to % g.slices)
@@ -116,7 +116,7 @@ pub same_weight : (g : Transfer) (edges es : List Edge) → IsTransfer g → Are
 same_weight g edges [] well are among = refl
 same_weight g edges (e ∷ es) well are among = omega (arith, (edged g edges e well are among.0).weight_is, same_weight g edges es well are among.1)
 
--- along a path of j edges and the weight w, the potential rises by at most l * w - m * j
+-- along a path of j edges and weight w, the potential rises by at most l * w - m * j
 pub path_weighs : (g : Transfer) (m l : ℕ) (ps : List ℤ) → ArePotentials g m l ps → (ss : List ℕ) (u v : ℕ) → IsPath g u ss v →
     ((potential_of ps v -ℤ potential_of ps u) ≤ℤ (pos (l * weight_of g ss) -ℤ pos (m * length ss)))
 path_weighs g m l ps given [] u v walk =

@@ -6,7 +6,7 @@ use Rattle.std.specs.{Prelude.◌⊎◌, List.Contains, List.All, List.fold}
 use Rattle.dd_meancycle.specs.declared.edges.Edge.{Edge}
 use Rattle.dd_meancycle.specs.table.Levels.{at, lowered, lower_at, relaxed, level, row, least, IsAtMost, IsUpToIn, IsRowUpTo, IsEdgeOf}
 
--- a lightest walk of the previous row, followed by an edge, is a walk to v of the weight b
+-- a lightest walk of the previous row, followed by an edge, is a walk to v and has the weight b
 pub record Arrives (edges : List Edge) (previous : List (Option ℕ)) (v b : ℕ) : Type 0 where
   pub edge : Edge
   pub is_in : Contains edges edge

@@ -4,7 +4,7 @@ use Rattle.std.specs.List.{Contains}
 use Rattle.dd_meancycle.specs.declared.edges.Edge.{Edge}
 use Rattle.dd_meancycle.specs.table.Walks.{IsWalk, AreAmong, edges_weight, natural_potential, AreEdgePotentials}
 
--- l times the weight of a walk of j edges is at least m * j plus the rise of the potential from its start to its end
+-- l times the weight of a walk of j edges is at least m * j plus the rise of the potential from the walk's start to the walk's end
 pub walk_weighs : (edges : List Edge) (m l : ℕ) (ps : List ℕ) → AreEdgePotentials edges m l ps →
     (es : List Edge) (u v : ℕ) → AreAmong edges es → IsWalk u es v →
     natural_potential ps v + m * length es ≤ natural_potential ps u + l * edges_weight es

@@ -33,7 +33,7 @@ abbrev pub AreRanks : Transfer → List ℕ → Type 0
 AreRanks g ranks = (u t v : ℕ) → next_of g u t ≡ Some v → slice_index ranks v < slice_index ranks u
 
 -- The cycle's mean is m / l in lowest terms, and the potentials show that no cycle has a smaller mean. The cycle has at most as many states as the
--- graph, and the potentials are small enough for an output.
+-- graph, and each potential is at most `most_number` in absolute value.
 pub record IsLeastMeanCycle (g : Transfer) (m l : ℕ) (cycle : List ℕ) (ps : List ℤ) : Type 0 where
   pub cycle_is : IsCycle g cycle
   pub short : length cycle ≤ g.states

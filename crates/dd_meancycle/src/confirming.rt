@@ -1,5 +1,5 @@
-//! The exact check of what a search found. This is either a cycle with potentials, which show that its mean is the least, or
-//! ranks, which show that there is no cycle.
+//! The exact check of what a search found. A search finds a cycle and potentials, or ranks. If the check passes, the
+//! potentials show that the cycle's mean is the least, or the ranks show that there is no cycle.
 ghost use Rattle.std.specs.Prelude.{◌≡◌, ℕ, ◌*◌, ◌%◌, ◌<◌, ◌≤◌, ◌↔◌, IsTrue, IfSome, length, slice_index, pos, ◌-ℤ◌, ◌≤ℤ◌, unsigned_abs, nat_le, Some};
 ghost use Rattle.std.specs.List.{All, list_all};
 ghost use Rattle.dd_values.specs.Bounds.{most_number};
@@ -96,9 +96,11 @@ fn are_bounded(potentials: &[i64]) -> bool
     potentials.iter().all(|potential| is_bounded(potential))
 }
 
-/// The mean of the cycle in lowest terms, if the potentials show that no cycle has a smaller mean. Returns `None` if they
-/// don't, if the states don't form a cycle or are more than the graph has, if there isn't one potential for each state, or if a
-/// potential is too great for an output.
+/// The mean of the cycle in lowest terms, if the potentials show that no cycle has a smaller mean. Returns `None` in these
+/// cases:
+/// - The list of states doesn't form a cycle, or is longer than the number of states of the graph.
+/// - There isn't one potential for each state, or a potential is too great for an output.
+/// - Along some edge the potential rises by too much to show that no cycle has a smaller mean.
 pub(crate) fn confirmed(
     graph: &Graph,
     edges: &[Edge],

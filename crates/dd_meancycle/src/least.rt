@@ -20,18 +20,21 @@ use std::alloc::{AllocError, Global};
 /// which show that there is no cycle.
 #[derive(Debug, Drop)]
 pub enum Mean {
-    /// The mean is `numerator / denominator` in lowest terms. The cycle is a list of states, at least one and at most as many
-    /// as the graph has. Each has an edge to the next, and the last has an edge to the first. There is one potential for each
-    /// state, in the order of the states' numbers. Each potential is at most 2^40 in absolute value. Along each edge the
-    /// potential rises by at most `denominator * weight - numerator`, where `weight` is the weight of the edge.
+    /// The least mean is `numerator / denominator`, in lowest terms.
     Least {
         numerator: u64,
         denominator: u64,
+        /// A cycle of this mean, as a list of states: at least one and at most as many as the graph has. Each state has an
+        /// edge to the next, and the last has an edge to the first.
         cycle: Items<u32>,
+        /// One potential for each state, in the order of the states' numbers. Each is at most 2^40 in absolute value. Along
+        /// each edge the potential rises by at most `denominator * weight - numerator`, where `weight` is the weight of the
+        /// edge.
         potentials: Items<i64>,
     },
-    /// One rank for each state, in the order of the states' numbers. The rank falls along each edge.
+    /// The graph has no cycle.
     NoCycle {
+        /// One rank for each state, in the order of the states' numbers. The rank falls along each edge.
         ranks: Items<u32>,
     },
 }

@@ -1,10 +1,10 @@
 //! The search for a cycle of least mean and for potentials (after E. Lawler, 1976). Let m / l be the mean of the last cycle
-//! that was found; at first it is a number above the mean of each cycle. All potentials are 0 at first. If the potential rises
-//! by more than l * w - m along an edge of weight w, the potential of the edge's target is lowered to that of the edge's source
-//! plus l * w - m. This is done in rounds over all edges until no potential can be lowered or the search gives up. For each
-//! state, the last edge along which its potential was lowered is marked. If marked edges form a cycle after a round, this cycle
-//! has a mean below m / l, and the search starts again with its mean. The result is checked afterwards, so no contract says
-//! what it is.
+//! that was found; at first m / l is a number above the mean of each cycle. All potentials are 0 at first. If the potential
+//! rises by more than l * w - m along an edge of weight w, the potential of the edge's target is lowered to that of the edge's
+//! source plus l * w - m. This is done in rounds over all edges until no potential can be lowered or the search gives up. For
+//! each state, the last edge along which its potential was lowered is marked. If marked edges form a cycle after a round, this
+//! cycle has a mean below m / l, and the search starts again with its mean. The result is checked afterwards, so no contract
+//! says what it is.
 
 use crate::edges::Edge;
 use crate::rises::{Ratio, reduced};

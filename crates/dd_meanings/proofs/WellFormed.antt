@@ -29,7 +29,7 @@ module _ (x : Context) (same : x.known.setting.topology.nodes ≡ length x.known
   abbrev symbol : ℕ → Bool
   symbol n = nat_lt n x.known.setting.sets.symbols
 
-  -- the formula is at most d deep, and its numbers are in range if k variables are in scope
+  -- the formula is at most d deep, and its numbers are in range if k variables (with `o`) are in scope
   abbrev Fine : Formula → ℕ → ℕ → Type 0
   Fine f k d = (its_fits f k ≡ true) × (depth f ≤ d)
 

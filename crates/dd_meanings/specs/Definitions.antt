@@ -28,8 +28,8 @@ case_of x c = (formula_of x c.condition [], symbol_of x c.symbol)
 abbrev pub automaton_of : Context → List Case → Name → Automaton
 automaton_of x cases symbol = by_cases x.known.setting.topology x.known.setting.sets (map (case_of x) cases) (symbol_of x symbol)
 
--- The automaton with this name: the item of the list `automata` at the name's number, which is 0 if no automaton has the name. If the list has no such
--- item, it is an automaton without cases.
+-- The automaton with this name: the item of the list `automata` at the name's number, which is 0 if no automaton has the name. If the list has no
+-- such item, the result is an automaton without cases.
 abbrev pub automaton_named : Context → List Automaton → Word → Automaton
 automaton_named x automata w = unwrap_or (slice_get automata (number_in x.text x.known.automata (Name.Word w))) (automaton.Given (record { cases = []; otherwise = 0 }))
 
@@ -41,8 +41,9 @@ composition_of x automata outer inner = automaton.Composed (automaton_named x au
 abbrev pub configuration_periods : List ℕ → Vector → List ℕ
 configuration_periods bytes v = period_at bytes v 0 ∷ period_at bytes v 1 ∷ period_at bytes v 2 ∷ []
 
--- A configuration, with the symbols of a box in cell order (by z, then y, then x, then the node). Copies of the box fill the lattice. The shear is
--- how far each copy is moved along the first axis from the copy before it along the second axis; it is 0 if none is given.
+-- A configuration, with the symbols of a box whose sides are the periods. The symbols are in cell order (by z, then y, then x, then the node). Copies
+-- of the box fill the lattice. The shear is how far each copy is moved along the first axis from the copy before it along the second axis; it is 0 if
+-- none is given.
 abbrev pub tile_of : Context → Vector → Option Vector → List Name → Tile
 tile_of x periods shear symbols =
     tile (dimension_of x.known) (with_shear (configuration_periods x.text periods) (shear_of x.text shear)) x.known.setting.topology.nodes (map (symbol_of x) symbols)

@@ -11,7 +11,7 @@ use Rattle.dd_query.specs.Queries.{query_of}
 use Rattle.dd_meanings.specs.{declared.meaning.Meaning.Meaning, Topologies.default_grid, Topologies.kind_names, Topologies.grid_by}
 use Rattle.dd_meanings.specs.Definitions.{symbol_of, rule_of, automaton_of, composition_of, tile_of, rule_faults, automaton_faults}
 
--- what the command that gives a built-in topology means; it also gives the names of the nodes, if no command has named any
+-- what the command that gives a built-in topology means; it also gives the names of the nodes, unless a `nodes` command has named them
 abbrev pub kind_meaning : Context → Kind → Meaning
 kind_meaning x k = if x.known.nodes_are_given then Meaning.Topology (grid_of k) else Meaning.Nodes (kind_names k) false (grid_of k)
 

@@ -1,6 +1,7 @@
 //! Terms, atoms and balls, with numbers in place of names. A term, such as `o.rt.up`, is a variable followed by moves along
 //! edges. It names the cell to which the moves lead. An atom is a formula about one or two terms. A ball has a variable as its
-//! centre, and a radius. A scope is the list of the bound variables, the outermost first.
+//! centre, and a radius. Its cells are those at most that many edges away from the variable's cell. A scope is the list of the
+//! bound variables, the outermost first.
 ghost use Rattle.std.specs.Prelude.{◌≡◌, ◌≤◌, [], length, map, IfOk};
 ghost use Rattle.std.specs.List.{flat_map};
 ghost use Rattle.dd_faults.specs.{Names.number_in, Formulas.names_symbol, Formulas.ball_faults};

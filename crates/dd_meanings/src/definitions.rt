@@ -64,7 +64,7 @@ fn cases_of(alloc: Global, context: &Context, cases: &[Case]) -> Made<Items<(Mea
 }
 
 /// What a definition of an automaton means: the automaton with these cases, and with this default symbol for cells at which no
-/// case is true.
+/// case's formula is true.
 pub(crate) fn automaton(
     alloc: Global,
     context: &Context,

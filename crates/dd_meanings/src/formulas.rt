@@ -1,6 +1,7 @@
-//! Formulas, with numbers in place of names. A scope is the list of the bound variables, the outermost first. The variable of a
-//! quantifier ranges over the cells of the quantifier's balls. A ball has a variable as its centre, and a radius. A chain is a
-//! list of formulas with the same connective between them.
+//! Formulas, with numbers in place of names. A scope is the list of the bound variables, the outermost first. The variable of
+//! a quantifier ranges over the cells of the quantifier's balls. A ball has a variable as its centre, and a radius. Its cells
+//! are those at most that many edges away from the variable's cell. A chain is a list of formulas with the same connective
+//! between them.
 ghost use Rattle.std.specs.Prelude.{◌≡◌, ◌+◌, ◌≤◌, [], length, IfOk};
 ghost use Rattle.dd_written.specs.Formulas.{tree_depth};
 ghost use Rattle.dd_faults.specs.Formulas.{formula_faults};
@@ -15,8 +16,8 @@ use dd_values::{Boxed, Items};
 use dd_written::{Formula as Written, Join, Quantifier, Word};
 use std::alloc::Global;
 
-/// Joins the parts of a chain of `->`. It groups to the right, so the parts are joined from the last one backwards. If there are
-/// no parts, the result is an empty `And`.
+/// Joins the parts of a chain of `->`. This connective groups to the right, so the parts are joined from the last one
+/// backwards. If there are no parts, the result is an empty `And`.
 #[tactic(auto, using(crate::proofs::Layers::implied_last))]
 fn implied(alloc: Global, parts: Items<Formula>) -> Made<Formula>
     ensures { IfOk result (λ f. f ≡ implied_of parts) }
@@ -33,8 +34,8 @@ fn implied(alloc: Global, parts: Items<Formula>) -> Made<Formula>
     Ok(whole)
 }
 
-/// Joins the parts of a chain of `<->`. It groups to the left, so the parts are joined from the first one onwards. If there are
-/// no parts, the result is an empty `And`.
+/// Joins the parts of a chain of `<->`. This connective groups to the left, so the parts are joined from the first one
+/// onwards. If there are no parts, the result is an empty `And`.
 fn equivalent(alloc: Global, parts: Items<Formula>) -> Made<Formula>
     ensures { IfOk result (λ f. f ≡ iff_of parts) }
 {

@@ -147,9 +147,10 @@ needs_each r a ps ok m =
 pub all_new : (r : LocalRule) (a : ℕ) (ps : Patterns) → IsMinimalList r a ps → AreNew r a [] ps
 all_new r a ps m = subst (AreNew r a []) (sym m.list) (listed_new r a (thinned (all_break r a)) (thinned_agrees (all_break r a)) [] m.breaking m.fillings.only)
 
--- there is only one list of all breaking fillings, and so only one minimal list
+-- there is only one list of all breaking fillings
 abbrev OneList : Type 0
 OneList = (r : LocalRule) (a : ℕ) (xs ys : List (List ℕ)) → BreakingFillings r a xs → BreakingFillings r a ys → xs ≡ ys
 
+-- so there is only one minimal list
 pub one_list : OneList → (r : LocalRule) (a : ℕ) (ps qs : Patterns) → IsMinimalList r a ps → IsMinimalList r a qs → ps ≡ qs
 one_list fillings r a ps qs m o = m.list ∙ (ap (listed (thinned (all_break r a)) []) (fillings r a m.breaking o.breaking m.fillings o.fillings) ∙ sym o.list)

@@ -98,7 +98,8 @@ whole_below m [] below = All-nil (λ p. IfSome p (λ s. s < m))
 whole_below m (s ∷ ss) below =
     All-cons (λ p. IfSome p (λ t. t < m)) (Some s) (whole ss) (All-head (λ t. t < m) s ss below) (whole_below m ss (All-tail (λ t. t < m) s ss below))
 
--- ---- let a filling's symbols be among the first m: if two tests agree on all patterns of its length with such symbols, they thin it alike
+-- ---- Let a filling's symbols be among the first m. If two tests agree on all patterns that have the filling's length and keep only symbols among
+-- the first m, then both tests thin the filling to the same pattern.
 
 kept_one : (m s : ℕ) (b : Bool) → s < m → IfSome (cond b None (Some s)) (λ t. t < m)
 kept_one m s true below = tt

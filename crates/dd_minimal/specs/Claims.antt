@@ -21,7 +21,8 @@ pub record IsNew (r : LocalRule) (a : ℕ) (before : List (List (Option ℕ))) (
   pub agreeing : agrees p ss ≡ true
   pub new : is_covered before ss ≡ false
 
--- each pattern of the list has such a filling; the patterns before a pattern are those of `before` and the earlier ones of the list
+-- Each pattern of the list agrees with a breaking filling that agrees with none of the patterns before it. The patterns before it are those of
+-- `before` and the earlier ones of the list.
 abbrev pub AreNew : LocalRule → ℕ → List (List (Option ℕ)) → List (List (Option ℕ)) → Type 0
 AreNew r a before [] = Unit {0}
 AreNew r a before (p ∷ ps) = ((ss : List ℕ) × IsNew r a before p ss) × AreNew r a (before ++ p ∷ []) ps

@@ -31,8 +31,8 @@ pub(crate) fn outcomes(alloc: Global, rule: &Rule, node: u32) -> Result<Items<Ou
 }
 
 /// Appends the outcomes of the fillings that begin with `symbols`, which are taken to be allowed. The cells of `rest` have no
-/// symbol yet. `formula` is the rule's formula at the node without quantifiers, with a number in place of each cell: the cell's
-/// index among the cells that are read.
+/// symbol yet. `formula` is the rule's formula at the node, without quantifiers and with a number in place of each cell: the
+/// cell's index among the cells that are read.
 fn fill(
     rule: &Rule,
     node: u32,

@@ -1,6 +1,6 @@
 //! Walks over the fillings that agree with a pattern. A walk begins at `from`, the number of the filling that agrees with the
-//! pattern and has the symbol 0 at every cell that the pattern leaves out. It goes on along `strides`, the strides of these
-//! cells, so that they take all combinations of the symbols from 0 to `symbols - 1`.
+//! pattern and has the symbol 0 at every cell that the pattern leaves out. It goes on along `strides`, the strides of the cells
+//! left out, so that these cells take all combinations of the symbols from 0 to `symbols - 1`.
 ghost use Rattle.std.specs.Prelude.{◌≡◌, ◌<◌, ◌≤◌, ◌+◌, ◌*◌, ◌-◌, ◌++◌, ◌∷◌, [], true, length};
 ghost use Rattle.dd_minimal.specs.finding.Numbers.{reach};
 ghost use Rattle.dd_minimal.specs.finding.Walks.{marked, none_holds};

@@ -1,5 +1,6 @@
--- A conjunction is true exactly when all its parts are, and a disjunction exactly when at least one part is. If an expansion is a conjunction or a
--- disjunction, the formula made from it is one too, and its parts are the formulas made from the expansion's parts.
+-- A conjunction is true exactly when all its parts are, and a disjunction exactly when at least one part is. The formula made from a conjunction is a
+-- conjunction, and the formula made from a disjunction is a disjunction. In both cases, the parts of the formula are the formulas made from the parts
+-- of the expansion.
 use Rattle.std.proofs.Common.{◌≡◌, ℕ, Bool, List, map, ap, sym, ◌∙◌}
 use Rattle.std.proofs.lemmas.List.Folds.{list_all-map}
 use Rattle.std.specs.List.{list_all, list_any}

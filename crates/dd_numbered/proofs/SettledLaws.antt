@@ -7,7 +7,7 @@ use Rattle.dd_numbered.specs.settling.Parts.{AreAllSettled, IsAnySettled, IsLeaf
 use Rattle.dd_numbered.proofs.Layers.{holds_and, holds_or}
 use Rattle.dd_numbered.specs.declared.numbered.Numbered.TheVariants as formula
 
--- if the value of an option, if any, has the property P, and P implies Q, then the value has the property Q
+-- suppose that P implies Q: if an option is none or its value has the property P, then it is none or its value has the property Q
 if_some : {P Q : Bool → Type 0} (o : Option Bool) → ((b : Bool) → P b → Q b) → IfSome o P → IfSome o Q
 if_some None f h = tt
 if_some (Some b) f h = f b h

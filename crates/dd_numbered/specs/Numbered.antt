@@ -24,7 +24,7 @@ holds_in = fold-Numbered (List ℕ → Bool) holds_in_step
 abbrev pub IsSettled : Numbered → List ℕ → Bool → Type 0
 IsSettled e ss b = (more : List ℕ) → holds_in e (ss ++ more) ≡ b
 
--- the leaf that says that the list has the symbol s at the index k, or the constant false if there is no number
+-- the leaf that says that the list has the symbol s at the index k, or the constant false if no index is given
 abbrev pub leaf_with : ℕ → Option ℕ → Numbered
 leaf_with s None = roll-Numbered (Numbered-F.Constant false)
 leaf_with s (Some k) = roll-Numbered (Numbered-F.Leaf k s)

@@ -1,4 +1,4 @@
--- The laws of all kinds of answers but those in `ConjugacyRows` and `LeastRows`, of the rows of the table, and of the whole table.
+-- The laws of all kinds of answers (except those in `ConjugacyRows` and `LeastRows`), of the rows of the table, and of the whole table.
 use Rattle.std.proofs.Common.{◌≡◌, ℕ, ◌≤◌, List, [], ◌∷◌, ◌++◌, length, drop, Some, None, true, inl, inr, refl, sym, ap, ◌∙◌, append_assoc, arith}
 use Rattle.std.proofs.lemmas.List.{append-nil}
 use Rattle.std.specs.{Prelude.ℤ, Prelude.codes, Prelude.All, Fmt.decimal, Fmt.signed_decimal}

@@ -51,7 +51,8 @@ Row = Keyed IsWritable first_of
 
 -- ---- kinds whose texts begin alike
 
--- `No` and `Nothing`, `List` and `Least`, and `Bound` and `Broken` share a row: the byte after the part that both texts share; 0 for all other answers
+-- `No` and `Nothing` share a row, and so do `List` and `Least`, and `Bound` and `Broken`. For these answers, this is the byte after the part that the
+-- two texts of the row share. It is 0 for all other answers.
 abbrev pub second_of : Answer → ℕ
 second_of (answer.No side periods shear symbols) = 32
 second_of (answer.Nothing steps) = 78

@@ -5,7 +5,7 @@ use Rattle.dd_output.specs.declared.{output.Output.Output, fault.CertificateFaul
 use Rattle.dd_output.specs.{Outputs.output_text, Outputs.IsWritableOutput, Outputs.IsWellFormed, reading.Whole.completion}
 use Rattle.dd_output.specs.declared.fault.CertificateFault.TheVariants as faults
 
--- The longest prefix of the bytes with which some output begins has this length. The bytes' `completion` completes this prefix.
+-- The offset is the length of the longest prefix of the bytes with which some output begins. The bytes' `completion` completes this prefix.
 pub record IsOffset (bytes : List ℕ) (offset : ℕ) : Type 0 where
   pub within : offset ≤ length bytes
   pub begins : IsWellFormed (take offset bytes ++ completion bytes)

@@ -110,8 +110,9 @@ pub(crate) fn numbers_until<'a>(
     }
 }
 
-/// One of the two bytes that can end the number with this index, from 0, in a line of at least `least` numbers. It is a space
-/// if more numbers have to follow, and a line feed otherwise. It may be the same byte as `other_at`.
+/// One of the two bytes that can end the number with this index in a line of at least `least` numbers. The first number has the
+/// index 0. The byte is a space if more numbers have to follow, and a line feed otherwise. `other_at` gives the other byte,
+/// which may be the same.
 pub(crate) fn end_at(least: u64, index: u64) -> u8
     ensures { result ≡ end_at least index }
 {
@@ -122,8 +123,8 @@ pub(crate) fn end_at(least: u64, index: u64) -> u8
     }
 }
 
-/// The other byte that can end the number with this index, from 0. The line has at most `most` numbers, or may have any number
-/// of them if `most` is `None`. The byte is a line feed if no more numbers may follow, and a space otherwise.
+/// The other byte that can end the number with this index. The line has at most `most` numbers, or may have any number of them
+/// if `most` is `None`. The byte is a line feed if no more numbers may follow, and a space otherwise.
 pub(crate) fn other_at(most: Option<u64>, index: u64) -> u8
     ensures { result ≡ other_at most index }
 {

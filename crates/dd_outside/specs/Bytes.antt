@@ -1,6 +1,6 @@
--- What reads and writes do to the bytes left in a source or held by a sink, and counts that stop at 2^64 - 1. `old` is the bytes before the reads or
--- writes, and `new` the bytes after them. Each is `None` if contracts don't know these bytes. If `old` is `None`, `Appends` and `Consumes` hold for any
--- bytes.
+-- What reads and writes do to the bytes left in a source or held by a sink, and counts that stop at 2^64 - 1. `old` lists these bytes before the
+-- reads or writes, and `new` lists them afterwards. Each is `None` if contracts don't say which bytes these are. If `old` is `None`, `Appends` and
+-- `Consumes` hold for any bytes.
 use Rattle.std.specs.Prelude.{◌≡◌, ℕ, ◌-◌, ◌^◌, ◌≤◌, ◌<◌, List, ◌++◌, length, min}
 use Rattle.std.specs.{declared.option.Option.Option, Io.KnownBytes.Appends, Io.KnownBytes.Consumes, Io.KnownBytes.IsAtEnd}
 use Rattle.std.proofs.Common.{arith}

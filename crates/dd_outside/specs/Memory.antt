@@ -1,4 +1,5 @@
--- What a source and a sink in memory hold, how they were set up, and how many of their calls were made and failed. These counts stop at 2^64 - 1.
+-- What a source and a sink in memory hold, how they were set up, how many of their calls were made, and how many failed. These counts stop at
+-- 2^64 - 1.
 use Rattle.std.specs.Prelude.{ℕ, ◌+◌, ◌-◌, List, length, take, drop}
 use Rattle.dd_outside.specs.{Bytes.capped, declared.memory.MemorySource.MemorySource, declared.memory.MemorySink.MemorySink}
 
@@ -10,7 +11,7 @@ next_call calls = capped (calls + 1)
 abbrev pub source_left : MemorySource → List ℕ
 source_left source = drop source.at source.bytes.items
 
--- The most bytes that a call of the source reads.
+-- The most bytes that one read takes from the source.
 abbrev pub source_step : MemorySource → ℕ
 source_step source = source.step
 
@@ -18,11 +19,11 @@ source_step source = source.step
 abbrev pub source_failing : MemorySource → List ℕ
 source_failing source = source.plan.failing.items
 
--- How many calls of the source were made.
+-- How many reads of the source were made.
 abbrev pub source_calls : MemorySource → ℕ
 source_calls source = source.plan.calls
 
--- How many calls of the source failed.
+-- How many reads of the source failed.
 abbrev pub source_faults : MemorySource → ℕ
 source_faults source = capped source.plan.faults
 
@@ -34,7 +35,7 @@ sink_held sink = take sink.taken sink.room.items
 abbrev pub sink_free : MemorySink → ℕ
 sink_free sink = length sink.room.items - sink.taken
 
--- The most bytes that a call of the sink writes.
+-- The most bytes that one write adds to the sink.
 abbrev pub sink_step : MemorySink → ℕ
 sink_step sink = sink.step
 
@@ -42,10 +43,10 @@ sink_step sink = sink.step
 abbrev pub sink_failing : MemorySink → List ℕ
 sink_failing sink = sink.plan.failing.items
 
--- How many calls of the sink were made.
+-- How many writes to the sink were made.
 abbrev pub sink_calls : MemorySink → ℕ
 sink_calls sink = sink.plan.calls
 
--- How many calls of the sink failed.
+-- How many writes to the sink failed.
 abbrev pub sink_faults : MemorySink → ℕ
 sink_faults sink = capped sink.plan.faults

@@ -12,9 +12,9 @@ use std::alloc::{AllocError, Global};
 struct Plan {
     // The numbers of the calls that are to fail.
     failing: Vec<u64>,
-    // How many calls were made.
+    // How many calls were made. This count stops at 2^64 - 1.
     calls: u64,
-    // How many calls failed. Both counts stop at 2^64 - 1.
+    // How many calls failed. This count also stops at 2^64 - 1.
     faults: u64,
 }
 

@@ -10,7 +10,7 @@ use crate::faults::{Failed, WriteFault};
 
 /// Where bytes are written to, such as a file.
 pub trait Sink {
-    /// The bytes that were written, or `None` if contracts don't know them.
+    /// The bytes that the sink holds, or `None` if contracts don't say which.
     ghost held: { Self → Option (List ℕ) };
 
     /// How many writes have failed. The count stops at 2^64 - 1.

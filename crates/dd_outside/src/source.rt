@@ -11,7 +11,7 @@ use std::alloc::{AllocError, Global};
 
 /// Where bytes are read from, such as a file.
 pub trait Source {
-    /// The bytes that are left to read, or `None` if contracts don't know them.
+    /// The bytes that are left to read, or `None` if contracts don't say which.
     ghost left: { Self → Option (List ℕ) };
 
     /// How many reads have failed. The count stops at 2^64 - 1.

@@ -16,8 +16,8 @@ limit_of Excess.Clauses = Limit.Clauses
 limit_of Excess.Patterns = Limit.Patterns
 limit_of Excess.States = Limit.States
 
--- For an image, the guarded formula says that the second rule is true and that the cell's node allows its symbol. If this formula
--- is too deep, the fault is the limit on depth. Otherwise there is no fault, and there is none for a change.
+-- For an image, the guarded formula says that the second rule is true and that the cell's node allows the cell's symbol. If this formula is too deep,
+-- the fault is the limit on depth. Otherwise, and for a change, there is no fault.
 abbrev pub guard_faults : Setting → ComparisonOf → List Fault
 guard_faults s (image x f y) = over (nat_lt most_nested (guarded_depth s.sets y)) Limit.Depth
 guard_faults s (change x f g) = []

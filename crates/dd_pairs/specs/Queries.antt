@@ -21,11 +21,12 @@ abbrev pub of_four : {X Y Z W V : Type 0} → (X → Y → Z → W → V) → Op
 of_four f (Some x) y z w = of_three (f x) y z w
 of_four f None y z w = None
 
--- the comparisons of this question: does the automaton map configurations of the first rule to configurations of the second?
+-- the comparisons of this query: does the automaton map the configurations that obey the first rule to ones that obey the second?
 abbrev pub map_comparisons : LocalRule → LocalRule → Automaton → List ComparisonOf
 map_comparisons x y f = image x f y ∷ []
 
--- the comparisons of this question: does f map configurations of x to those of y, does g map those of y to those of x, and does each undo the other?
+-- the comparisons of this query: does f map the configurations that obey x to ones that obey y, does g map those that obey y to ones that obey x, and
+-- does each undo the other?
 abbrev pub conjugate_comparisons : LocalRule → LocalRule → Automaton → Automaton → List ComparisonOf
 conjugate_comparisons x y f g = image x f y ∷ image y g x ∷ change x g f ∷ change y f g ∷ []
 

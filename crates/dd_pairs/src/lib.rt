@@ -1,10 +1,14 @@
-//! Pairs of automata. A query about an image asks whether an automaton maps the configurations that obey one rule to
-//! configurations that obey another, the target. A query about a conjugacy asks whether two automata do this in both directions
-//! and are inverse to each other. A query of either kind consists of questions, each about one pair: can the two automata of
-//! the pair differ at a position of a configuration that obeys a rule? The rule is the question's premise. The question's goal
-//! is the property of a position that the automata differ there (see `dd_boxes`). The pairs are made when the query is read.
-//! The query is refused if a pair exceeds a limit on instances, reach or depth, or if the question about it takes too many
-//! clauses (see `dd_question`). The pairs are made again when the query is answered or checked.
+//! Pairs of automata. Each position of the lattice Z^d has one or more nodes. A cell is a position together with one of its
+//! nodes. A configuration gives each cell a symbol. It obeys a rule if it gives each cell a symbol that the cell's node
+//! allows, and the rule is true at every cell. An automaton maps configurations to configurations.
+//!
+//! A query about an image asks whether an automaton maps the configurations that obey one rule to configurations that obey
+//! another, the target. A query about a conjugacy asks whether two automata do this in both directions and are inverse to each
+//! other. A query of either kind consists of questions, each about one pair: can the two automata of the pair differ at a
+//! position of a configuration that obeys a rule? The rule is the question's premise. The question's goal, which may hold at a
+//! position, is that the automata differ there (see `dd_boxes`). The pairs are made when the query is read. The query is
+//! refused if a pair exceeds a limit on instances, reach or depth (see `Limit` of `dd_faults`), or if the question about a
+//! pair takes too many clauses (see `dd_question`). The pairs are made again when the query is answered or checked.
 #![tactic(auto)]
 
 mod comparisons;

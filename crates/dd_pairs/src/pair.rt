@@ -56,9 +56,9 @@ impl Pair {
     }
 }
 
-/// The two rules, and the four goals of the question whether a map from `from` to `to` and a map back are inverse to each
-/// other. There must be four pairs. They are, in order, for the image under the map, for the image under the map back, for the
-/// map followed by the map back, and for the map back followed by the map.
+/// The question whether a map from `from` to `to` and a map back are inverse to each other. It is given by the two rules and
+/// four goals, one for each pair. There must be four pairs: in order, one for the image under the map, one for the image under
+/// the map back, one for the map followed by the map back, and one for the map back followed by the map.
 pub fn conjugacy<'a>(from: &'a Rule, to: &'a Rule, pairs: &'a [Pair]) -> Conjugacy<'a>
     requires { length pairs.now ≡ 4 }
     ensures { IsConjugacyBy from.now to.now pairs.now result }

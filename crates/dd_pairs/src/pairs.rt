@@ -45,8 +45,8 @@ fn pair(alloc: Global, setting: &Setting, comparison: Comparison) -> Result<Pair
     }
 }
 
-/// The pair that a comparison asks about. The error is the first limit that the pair exceeds or, if it exceeds none, the limit
-/// on clauses, which the question about the pair exceeds. A lack of memory is an error, too.
+/// The pair that a comparison asks about. The error is the first limit that the pair exceeds. If the pair exceeds none, but the
+/// question about it exceeds the limit on clauses, the error is this limit. A lack of memory is an error, too.
 fn tested(alloc: Global, known: &Known, comparison: Comparison) -> Result<Pair, Refusal>
     requires sound { IsSound known.now }
     requires two { 2 ≤ length known.now.setting.symbols }
@@ -75,8 +75,8 @@ fn made(alloc: Global, known: &Known, comparisons: &[Comparison]) -> Result<Item
     Ok(pairs)
 }
 
-/// The pairs that a query asks about, in the order of its questions. There are none unless it is about an image or a conjugacy.
-/// The query's numbers are indices into `rules` and `automata`.
+/// The pairs that a query asks about, in the order of its questions. There are none unless the query is about an image or a
+/// conjugacy. The query's numbers are indices into `rules` and `automata`.
 ///
 /// # Errors
 /// The first limit that is exceeded, or a lack of memory. The questions are tested in order, each first for the limits on its

@@ -10,7 +10,8 @@ use Rattle.dd_pattern.specs.{declared.periods.Periods.Periods, Periods.periods_c
 use Rattle.dd_pattern.specs.listing.Adding.{IsAdded, HasShear, IsPeriodUpTo, HasBox, most_along}
 use Rattle.dd_pattern.specs.lemmas.PeriodsLaws.{made_periods, periods_same, periods_equal}
 
--- if one step adds the periods of P, the next step adds those of Q, and R is the union of P and Q, then the two steps together add those of R
+-- Let R hold exactly where P or Q holds. If one step adds the periods that satisfy P, and the next step adds those that satisfy Q, then the two steps
+-- together add those that satisfy R.
 pub added_more : (a b c : List Periods) (P Q R : Periods → Type 0) → IsAdded a b P → IsAdded b c Q → ((q : Periods) → R q → P q ⊎ Q q) →
     ((q : Periods) → P q → R q) → ((q : Periods) → Q q → R q) → IsAdded a c R
 added_more a b c P Q R first second split from_first from_second q = (

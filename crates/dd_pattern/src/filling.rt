@@ -58,7 +58,7 @@ impl Filling {
     }
 
     /// The filling restricted to these cells, which must be strictly ascending in cell order. `None` if one of them isn't in
-    /// the domain.
+    /// the domain. Fails only if memory runs out.
     pub fn restrict(&self, alloc: Global, cells: &[Cell]) -> Result<Option<Filling>, AllocError>
         requires { IsStrictlySortedBy cell_cmp cells.now }
         ensures { IfOk result (λ found. MatchOption found (IsWanting self.now cells.now) (IsRestriction self.now cells.now)) }

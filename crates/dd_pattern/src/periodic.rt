@@ -88,8 +88,8 @@ fn are_periods(dim: u32, periods: &Periods) -> bool
 }
 
 impl Periodic {
-    /// The configuration whose fundamental box has these symbols, in cell order. The call allocates nothing. It gives the
-    /// symbols back in these cases:
+    /// The configuration whose fundamental box has these symbols, in cell order. The call allocates nothing. It fails in these
+    /// cases, and the error gives the symbols back:
     /// - `dim` isn't 1, 2 or 3, or `nodes` is 0.
     /// - A period is 0, or the period of an unused axis isn't 1.
     /// - The shear isn't less than the first period, or isn't 0 in one dimension.

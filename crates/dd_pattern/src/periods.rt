@@ -15,9 +15,12 @@ use std::cmp::Ordering;
 use std::collections::BTreeSet;
 
 /// The periods of a configuration that repeats along the vectors `(x, 0, 0)`, `(shear, y, 0)` and `(0, 0, z)`. They are valid
-/// in `dim` dimensions, where `dim` is 1, 2 or 3, if `x`, `y` and `z` are at least 1, the periods of unused axes (those after
-/// the first `dim`) are 1, the shear is less than `x`, and in one dimension the shear is 0. Periods are ordered by the volume
-/// `x * y * z`, then by `x`, `y`, `z` and the shear.
+/// in `dim` dimensions, where `dim` is 1, 2 or 3, if all of these hold:
+/// - `x`, `y` and `z` are at least 1.
+/// - The periods of unused axes (those after the first `dim`) are 1.
+/// - The shear is less than `x`, and 0 in one dimension.
+///
+/// Periods are ordered by the volume `x * y * z`, then by `x`, `y`, `z` and the shear.
 #[derive(Debug, Clone, Copy, PartialEq, Eq)]
 pub struct Periods {
     pub x: u32,
@@ -28,7 +31,7 @@ pub struct Periods {
 
 impl Periods {
     /// All valid periods in `dim` dimensions whose `x`, `y` and `z` are at most `most`, with every possible shear, in the order
-    /// of periods.
+    /// of periods. Fails only if memory runs out.
     pub fn within(alloc: Global, dim: u32, most: u32) -> Result<Vec<Periods>, AllocError>
         ensures ascending { IfOk result (λ v. IsStrictlySortedBy periods_cmp v.items) }
         ensures members { IfOk result (λ v. AreAllWithin dim most v.items) }

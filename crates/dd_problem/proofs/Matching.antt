@@ -153,7 +153,7 @@ goal_is_wired w l x p (differ s f g) ok layout reads values match =
     (ap (λ v. are_wired_there n s.symbols v ((counted g).reads a) (cell origin a)) match ∙ value_is_wired l layout.within s g values.right a node n (omega (arith, same)))))
 goal_is_wired w l x p always ok layout reads values match = refl
 
--- the whole clause list
+-- the whole clause list over the wires is that of the layout
 pub wired_is_problem : (w : Wiring) (l : Layout) (x : LocalRule) (p : Cell → Cell → Bool) (q : Cell → Bool) (g : GoalOf) → IsRule x → HasGoalFacts x g → IsLayout l → HasReads l g →
     ((k : ℕ) (d : Cell) → slice_get l.places k ≡ Some d → Matches w l x.symbols (p d) x d) → GoalMatches w l x.symbols q g → wired_problem w x g l.places ≡ problem l x g
 wired_is_problem w l x p q g rule ok layout reads places goal =

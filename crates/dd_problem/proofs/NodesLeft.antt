@@ -33,7 +33,8 @@ nodes_made maker count node n = all_made (map maker (range_to node count)) n
 abbrev pub all_nodes : (ℕ → Maker) → ℕ → ℕ → AllMade
 all_nodes maker count n = all_made (map maker (range_with_len 0 count)) n
 
--- all gates with their clauses, and all literals, are those already there and those left
+-- The loop over nodes: `start` with the gates of all nodes is `now` with the gates of the nodes that are left. The literals of all nodes are
+-- `literals`, followed by those of the nodes that are left.
 pub record NodesLeft (maker : ℕ → Maker) (count : ℕ) (turn : Signal → Literal) (node : ℕ) (start now : Encoding) (literals : List Literal) : Type 0 where
   pub inputs : now.circuit.inputs ≡ start.circuit.inputs
   pub more : size start.circuit ≤ size now.circuit

@@ -55,7 +55,7 @@ same_reads n m w x d rule node near ok full more =
     row_full n m x.symbols (is_in_range (moved c.position v)) (signals_of w (shifted v c)) s more (full (shifted v c)) (ok (shifted v c)))
     h)
 
--- `are_reads_wired`, with m variables, tells whether each leaf has its wire among the first n
+-- `are_reads_wired`, asked for m variables, tells whether each of the rule's leaves at d has its wire, and the wire's variable is one of the first n
 pub reads_tell : (n m : ℕ) (w : Wiring) (x : LocalRule) (d : Cell) (b r : Bool) → IsRule x → d.node < x.nodes → extent d.position ≤ 1048560 → AreInputs n w → HasAllSymbols x.symbols w → n ≤ m →
     r ≡ are_reads_wired m w x d → r ≡ b → is_wired_at w n x d ≡ b
 reads_tell n m w x d b r rule node near ok full more said told =

@@ -48,7 +48,7 @@ module _ (x : LocalRule) (periods : Periods) (rule : IsRule x) (ok : AreTorusPer
       let at = get_or-range_with_len 0 (torus_size x periods) k 0 low in
       omega (arith, at)
 
--- what a question reads has its inputs
+-- what a question reads has the layout's inputs
 module _ (x : LocalRule) (periods : Periods) (rule : IsRule x) (ok : AreTorusPeriods x.dimension x.nodes periods) (g : GoalOf) (good : HasGoalFacts x g) where
   abbrev near : List Cell
   near = near_cells x g (torus_cells x periods)
@@ -56,7 +56,7 @@ module _ (x : LocalRule) (periods : Periods) (rule : IsRule x) (ok : AreTorusPer
   abbrev numbers : Tile
   numbers = numbered_tile x periods
 
-  -- a cell that `near_cells` lists, so that it has signals; its node is one of the rule's, and its position is in range
+  -- a cell that `near_cells` lists (so it has signals), whose node is one of the rule's and whose position is in range
   record IsNear (c : Cell) : Type 0 where
     listed : Contains near c
     node : c.node < x.nodes
@@ -140,7 +140,7 @@ module _ (x : LocalRule) (periods : Periods) (rule : IsRule x) (ok : AreTorusPer
       signals_there x.symbols near (map (number_at numbers) near) (near_ascends x g (torus_cells x periods)) (length-map near (number_at numbers)) c is.listed.0 (tile_index (torus x periods) c) at
       (number_there c is.listed.0 at is.node)
 
-  -- what automata read at the origin has its inputs
+  -- what automata read at the origin has the layout's inputs
   value_has : (s : CommonNumbers) (f h : Automaton) (ds : List Cell) → AreOver x s f h → list_all (is_cell_within s n) ds ≡ true → (d : Cell) → Contains ds d →
       HasInputs (torus_layout x g periods) s.symbols (shifted origin d)
   value_has s f h ds over reach d there =

@@ -1,5 +1,5 @@
--- Clauses that say that each cell has one symbol, which its node allows, and clauses over the signals of gates. The comment of a list of clauses is
--- what the clauses say.
+-- Clauses that say that each cell has one symbol, which its node allows, and clauses over the signals of gates. The comment on a list of clauses
+-- states what the clauses say.
 use Rattle.std.specs.Prelude.{ℕ, suc, ◌+◌, ◌*◌, true, false, List, [], ◌∷◌, ◌++◌, map, length}
 use Rattle.std.specs.List.{flat_map, enumerate_from, range_with_len}
 use Rattle.dd_lattice.specs.declared.position.Cell.{Cell}

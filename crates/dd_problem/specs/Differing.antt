@@ -1,5 +1,5 @@
--- The gates that say whether the values of two automata at a cell are different. The signals of a value say of each symbol whether it is the
--- value.
+-- The gates that say whether the values of two automata at a cell are different. A value has one signal for each symbol, which says whether the
+-- value is this symbol.
 use Rattle.std.specs.Prelude.{ℕ, ◌+◌, List, [], ◌∷◌, ◌++◌, length}
 use Rattle.dd_lattice.specs.declared.position.Cell.{Cell}
 use Rattle.dd_formula.specs.declared.automaton.Automaton.{Automaton}

@@ -8,7 +8,7 @@ pub mod Differing
 pub mod Encodings
 -- the clauses of a whole question on a box and on a torus
 pub mod Problems
--- the symbols of cells, and their inputs in an assignment
+-- the symbols of cells, and when they are read from an assignment
 pub mod Symbols
 -- when clauses express what a question asks
 pub mod Shows

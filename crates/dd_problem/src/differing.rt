@@ -17,8 +17,9 @@ use dd_formula::{Automaton, Rule};
 use dd_lattice::{Cell, Position};
 use std::alloc::{AllocError, Global};
 
-/// The signals of a value say of each symbol whether it is the value. `first` and `second` are the signals of two values. For
-/// each symbol, adds a gate that says that this symbol is the first value and not the second. Returns the gates' signals.
+/// Adds, for each symbol, a gate that says that this symbol is the first of two values and not the second. Returns the gates'
+/// signals. `first` and `second` are the signals of the two values. A value has one signal for each symbol, which says whether
+/// the value is this symbol.
 fn compile_apart(
     circuit: &mut Circuit,
     alloc: Global,

@@ -1,4 +1,5 @@
-//! Gates and clauses for a rule, at the cells where all that the rule reads has inputs, and for a goal, at the origin.
+//! Gates and clauses for a rule, at each cell where every cell that the rule reads has inputs. Gates and clauses for a goal, at
+//! the origin.
 ghost use Rattle.std.specs.Prelude.{◌≡◌, ◌≤◌, ◌<◌, ◌+◌, ◌-◌, ◌∷◌, ℕ, [], true, map, All, IfOk, OnOk};
 ghost use Rattle.std.specs.List.{range_with_len};
 ghost use Rattle.dd_values.specs.Bounds.{most_variables};

@@ -96,7 +96,8 @@ fn once_each(cells: Vec<Cell>) -> Vec<Cell>
     found
 }
 
-/// The cells that the premise reads at these cells, and those of the box of the goal's least radius; in cell order, each once.
+/// The cells that the premise reads at the given cells, and the cells of the box of the goal's least radius. The result is in
+/// cell order and has each cell once.
 fn near_cells(
     alloc: Global,
     premise: &Rule,
@@ -163,7 +164,7 @@ fn numbering(alloc: Global, premise: &Rule, periods: &Periods) -> Result<Periodi
     )
 }
 
-/// Inputs for the cells that the premise reads at the cells of the fundamental box, and for those of the box of the goal's
+/// Inputs for the cells that the premise reads at the cells of the fundamental box, and for the cells of the box of the goal's
 /// least radius. Each cell has the inputs of the cell of the fundamental box that it equals modulo the periods.
 fn torus_inputs(
     alloc: Global,
@@ -183,12 +184,13 @@ fn torus_inputs(
     inputs_by_number(alloc, &near, &numbers, symbols)
 }
 
-/// The clauses that ask for a configuration of these periods and this shear that has only symbols that their nodes allow, lives
-/// in the premise's subshift, and has the goal at the origin. The periods along x, y and z must be at least 1; those of axes
-/// past the dimension must be 1. The shear must be less than the first period, and 0 in one dimension. The fundamental box must
-/// have at most 65,536 cells. A bound on the number of clauses, `question_clauses` in the specs of `dd_boxes`, must be at most
-/// 2,000,000. The cells of the fundamental box are numbered from 0 in cell order. If the alphabet has `symbols` symbols, the
-/// variable `1 + k * symbols + s` says that the cell with the number `k` has the symbol `s`. The variables of the gates follow.
+/// The clauses that ask for a configuration of these periods and this shear that gives each cell a symbol that the cell's node
+/// allows, lives in the premise's subshift, and has the goal at the origin. The periods along x, y and z must be at least 1;
+/// those of axes past the dimension must be 1. The shear must be less than the first period, and 0 in one dimension. The
+/// fundamental box must have at most 65,536 cells. A bound on the number of clauses, `question_clauses` in the specs of
+/// `dd_boxes`, must be at most 2,000,000. The cells of the fundamental box are numbered from 0 in cell order. If the alphabet
+/// has `symbols` symbols, the variable `1 + k * symbols + s` says that the cell with the number `k` has the symbol `s`. The
+/// variables of the gates follow.
 ///
 /// # Errors
 /// `AllocError` if memory ran out.

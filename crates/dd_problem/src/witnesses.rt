@@ -13,7 +13,7 @@ use dd_formula::Rule;
 use dd_pattern::Periodic;
 use std::alloc::{AllocError, Global};
 
-/// Whether the variable `input + 1` has a value, and the value is true. The first of `values` is that of the variable 1.
+/// Whether the variable `input + 1` has a value, and the value is true. The list `values` starts with the value of variable 1.
 fn is_true(values: &[bool], input: usize) -> bool
     ensures { result ≡ slice_index_or values.now input false }
 {

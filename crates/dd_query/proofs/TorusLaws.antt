@@ -16,7 +16,7 @@ some_at bytes [] j h = omega arith
 some_at bytes (e ∷ es) zero h = ltb-false (entry_value bytes e) 1 (or_parts _ _ h).0
 some_at bytes (e ∷ es) (suc j) h = some_at bytes es j (or_parts _ _ h).1
 
--- if at most three periods are given, their product is that of the periods along all three axes, since those that aren't given are 1
+-- if at most three periods are given, their product equals the product of the periods along all three axes, since the missing ones are 1
 volume_is : (bytes : List ℕ) (es : List Entry) → length es ≤ 3 → entry_at bytes es 2 * entry_at bytes es 1 * entry_at bytes es 0 ≡ product bytes es
 volume_is bytes [] h = refl
 volume_is bytes (e ∷ []) h = grind (arith, mul_comm)

@@ -11,7 +11,7 @@ use Rattle.dd_faults.specs.{Names.number_in, Commands.period_at}
 abbrev pub number_of_word : Context → Role × Word → ℕ
 number_of_word x w = number_in x.text (named x.known w.0) (Name.Word w.1)
 
--- the number of what the word at this index names, as in `number_of_word`; the table of queries gives the role; 0 if there is no such word or role
+-- the number that `number_of_word` gives for the word at this index and its role in the table of queries; 0 if there is no such word or role
 abbrev pub word_at : Context → Request → ℕ → ℕ
 word_at x r place = slice_index (map (number_of_word x) (zip (row r.kind).names r.words)) place
 

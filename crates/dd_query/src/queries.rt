@@ -61,11 +61,12 @@ pub enum Query {
     Forbidden {
         rule: u32,
     },
-    /// Minimal patterns that together forbid what the rule forbids. No cell can be left out of a minimal pattern.
+    /// Minimal patterns that together forbid what the rule forbids. A minimal pattern may leave out cells that the rule reads.
+    /// If a further cell is left out, what remains of the pattern isn't forbidden.
     Minimal {
         rule: u32,
     },
-    /// The least density, or weight per position, that the rule allows on a strip. `strip` holds the strip's periods along the
+    /// The least density (weight per position) that the rule allows on a strip. `strip` holds the strip's periods along the
     /// second and the third axis. Along an axis past the dimension the period is 1.
     Density {
         rule: u32,

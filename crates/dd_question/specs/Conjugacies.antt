@@ -6,8 +6,8 @@ use Rattle.dd_formula.specs.LocalRule.{LocalRule}
 use Rattle.dd_boxes.specs.{Goals.GoalOf, Views.goal_of}
 use Rattle.dd_question.specs.{Boxes.is_long, declared.conjugacy.Conjugacy.Conjugacy}
 
--- Two subshifts, and the goals of four box questions about a map from the first to the second and a map back. The maps are
--- inverse to each other exactly when the answer to each question is yes: no configuration that obeys the premise has the goal.
+-- Two subshifts, and the goals of four box questions about a map from the first to the second and a map back. The maps are inverse to each other
+-- exactly when the answer to each question is yes: no configuration that obeys the premise has the goal at any position.
 pub record ConjugacyOf : Type 0 where
   pub from : LocalRule
   pub to : LocalRule

@@ -19,7 +19,7 @@ use Rattle.dd_question.specs.declared.question.Question.TheVariants as question
 -- A question, as contracts see it. In the definitions below, `ws` lists the weights of the symbols, `along` the periods of a torus, and `vs` the
 -- vectors of a discharge.
 pub data Asked : Type 0 where
-  -- does the configuration live in the rule's subshift, that is, is the rule true at every cell?
+  -- does the configuration, whose symbols must all be allowed, live in the rule's subshift, that is, is the rule true at every cell?
   membership : LocalRule → Tile → Asked
   -- The box question: is it true that no configuration that obeys the rule has the goal at any position? A goal is something that may hold at a
   -- position, such as that another rule is false at some node there.

@@ -9,7 +9,8 @@ use dd_boxes::Goal;
 use dd_formula::Rule;
 
 /// Two subshifts, and the goals of four box questions about a map from the first to the second and a map back. The maps are
-/// inverse to each other exactly when the answer to each question is yes: no configuration that obeys the premise has the goal.
+/// inverse to each other exactly when the answer to each question is yes: no configuration that obeys the premise has the goal
+/// at any position.
 #[derive(Clone, Copy)]
 pub struct Conjugacy<'a> {
     /// The rule of the first subshift.

@@ -9,11 +9,12 @@
 //! z are the periods of the torus, and s is its shear. Its fundamental box is the box that repeats. The side lengths of this
 //! box are the periods. A strip has periods along the second and the third axis, and no end along the first.
 //!
-//! There are two kinds of limits. The limits of the search (`Limits` of `dd_values`) bound the search for an answer. Beyond
-//! them the answer is UNKNOWN. To answer a box question (`Question::Box`), the search tries boxes around the origin and then
-//! tori, and turns each of them into clauses. Its limits are the greatest radius of these boxes and the greatest period of
-//! these tori. One box is tried even if its radius is greater: the smallest one that holds all cells that the question's goal
-//! reads at the origin. Another limit is the greatest number of simplex pivots for a discharge.
+//! There are two kinds of limits. The limits of the search (`Limits` of `dd_values`) bound the search for an answer. If they
+//! leave the question undecided, the answer is UNKNOWN. A box question (`Question::Box`) asks whether no configuration that
+//! obeys a rule has a given property, the goal, at any position. To answer it, the search tries boxes around the origin and
+//! then tori, and turns each of them into clauses. Its limits are the greatest radius of these boxes and the greatest period
+//! of these tori. One box is tried even if its radius is greater: the smallest one that holds all cells that the question's
+//! goal reads at the origin. Another limit is the greatest number of simplex pivots for a discharge (`Question::Discharge`).
 //!
 //! The limits on a question's work (`Excess`) are limits on numbers that can be computed beforehand, such as an upper bound for
 //! the number of clauses of a search. `Question::check` tests whether the limits of the search are in range, whether the parts

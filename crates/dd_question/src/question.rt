@@ -8,7 +8,8 @@ use dd_pattern::Periodic;
 /// A question about rules. If it has `weights`, the symbol `s` weighs `weights[s]`.
 #[derive(Clone, Copy)]
 pub enum Question<'a> {
-    /// Does the configuration live in the rule's subshift, that is, is the rule true at every cell?
+    /// Does the configuration, whose symbols must all be allowed, live in the rule's subshift, that is, is the rule true at
+    /// every cell?
     Membership {
         rule: &'a Rule,
         configuration: &'a Periodic,

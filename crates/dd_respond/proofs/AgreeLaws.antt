@@ -160,8 +160,8 @@ unless_bare (decision.Yes n steps) P = refl
 unless_bare (decision.No t) P = refl
 unless_bare decision.Unknown P = refl
 
--- The join of two decisions, taken without their evidence, doesn't change if the right one is replaced by one that differs only in its evidence. If
--- the left one is NO, the right one may be replaced by any other.
+-- The join of two decisions (`joined` of dd_contain), taken without their evidence, doesn't change if the right decision is replaced by another that
+-- differs only in its evidence. If the left decision is NO, the right decision may be replaced by any other.
 joined_bare : (l r k : Decision) → UnlessNo l (bare r ≡ bare k) → joined (bare l) (bare r) ≡ joined (bare l) (bare k)
 joined_bare (decision.No t) r k same = refl
 joined_bare (decision.Yes n steps) r k same = ap (joined (decision.Yes n [])) same

@@ -23,7 +23,7 @@ abbrev pub written_density : Density → Answer
 written_density (density.Least p q walk potentials) = answer.Density p q walk potentials
 written_density (density.Empty ranks) = answer.Empty ranks
 
--- A right answer gives the least density, or says that no configuration lives on the strip. Both come with evidence. It is never UNKNOWN.
+-- A right answer gives the least density, or says that no configuration lives on the strip. Both come with evidence. A right answer is never UNKNOWN.
 pub data IsRightDensity (x : LocalRule) (strip ws : List ℕ) : Answer → Type 0 where
   right_least : {p q : ℕ} {cycle : List ℕ} {potentials : List ℤ} → IsLeastDensity x (strip_for x strip) ws p q →
       IsDensityCertificate x (strip_for x strip) ws p q cycle potentials → IsRightDensity x strip ws (answer.Density p q cycle potentials)

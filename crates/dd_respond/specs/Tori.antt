@@ -20,7 +20,7 @@ LivesWith x along ws w t = IsLiving x (periods_of along 0) t × (total_weight ws
 
 -- A right answer gives the least weight of the configurations with these periods and no shear that live in the rule's subshift. It has a
 -- configuration of this weight and, unless the weight is 0, steps that refute every smaller weight. If no configuration with these periods and no
--- shear lives in the rule's subshift, a right answer says so, and has steps that show this. It is never UNKNOWN.
+-- shear lives in the rule's subshift, a right answer says so, and has steps that show this. A right answer is never UNKNOWN.
 pub data IsRightLeast (x : LocalRule) (along ws : List ℕ) : Answer → Type 0 where
   has_least : {w : ℕ} {t : Tile} {steps : List Step} → LeastOn x (periods_of along 0) ws w → LivesWith x along ws w t →
       (0 < w → IsRefuting (weight_problem x (periods_of along 0) ws w) steps) → IsRightLeast x along ws (answer.Least w t.symbols steps)

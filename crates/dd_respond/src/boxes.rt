@@ -1,4 +1,5 @@
-//! Answers to box questions, and to questions about equality: whether two rules allow the same configurations.
+//! Answers to box questions, and to questions about equality: whether no configuration that obeys one of two rules makes the
+//! other one false at any cell.
 ghost use Rattle.std.specs.Prelude.{◌≡◌, All, IfOk};
 ghost use Rattle.dd_boxes.specs.Goals.{breaks};
 ghost use Rattle.dd_boxes.specs.Views.{goal_of};
@@ -112,8 +113,8 @@ pub(crate) fn decided<E: Engine>(
     written_decision(alloc, decision)
 }
 
-/// The answer to the question whether two rules allow the same configurations, within the limits. The roster is used as in
-/// `decide` of `dd_contain`.
+/// The answer to the question about the equality of two rules, within the limits. The roster is used as in `decide` of
+/// `dd_contain`.
 pub(crate) fn compared<E: Engine>(
     alloc: Global,
     left: &Rule,

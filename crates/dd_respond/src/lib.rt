@@ -1,4 +1,5 @@
-//! Finds right answers to questions about rules. All right answers to a question have the same first line, and differ only in
+//! Finds right answers to questions about rules. `dd_question` says what rules, configurations and tori are, and what each
+//! kind of question asks. All right answers to a question within the same limits have the same first line, and differ only in
 //! their evidence.
 //!
 //! Some questions come down to box questions. A box question has a rule (its premise) and a goal: a property of a position,
@@ -6,13 +7,14 @@
 //! position. To answer it, a search goes through boxes of growing radius, and then through tori of growing volume (see
 //! `dd_contain`). Each box and each torus becomes a list of clauses.
 //!
-//! An engine is any value that, for a list of clauses, may propose an assignment that satisfies them, or a refutation. It is
-//! sound if all that it proposes is right. A list of engines is called a roster. In the search, the engines of a roster are
-//! asked about each list of clauses. If none of them makes a right proposal, a solver decides.
+//! An engine is any value that, for a list of clauses, may propose an assignment or a refutation. A proposal is right if it
+//! satisfies or refutes the clauses. An engine is sound if all that it proposes is right. A list of engines is called a
+//! roster. In the search, the engines of a roster are asked about each list of clauses. If none of them makes a right
+//! proposal, a solver decides.
 //!
 //! The limits bound the radii and the periods of the search, and the pivots of a run of the simplex method. If they leave a
-//! question undecided, the answer is UNKNOWN. So is the answer to a question about discharging if its linear program or a
-//! number becomes too large.
+//! question undecided, the answer is UNKNOWN. The answer to a question about discharging is also UNKNOWN if its linear
+//! program, or a number, becomes too large.
 #![tactic(auto)]
 
 mod boxes;

@@ -29,9 +29,9 @@ fn written_cell(alloc: Global, dim: u32, cell: &Cell) -> Result<Items<i64>, Allo
     Ok(place)
 }
 
-/// The answer to the question whether a configuration lives in a rule's subshift: whether it obeys the rule at every cell. If
-/// it doesn't, the answer names the first cell of the fundamental box, in cell order (by z, then y, then x, then the node), at
-/// which the rule is false.
+/// The answer to the question whether a rule is true at every cell of a configuration. If each cell has a symbol that its node
+/// allows, this is the question whether the configuration lives in the rule's subshift. If the rule is false at some cell, the
+/// answer names the first such cell of the fundamental box, in cell order (by z, then y, then x, then the node).
 #[tactic(auto, using(dd_evidence::specs::Answers::member_inside, dd_evidence::specs::Answers::member_outside))]
 pub(crate) fn member(alloc: Global, rule: &Rule, periodic: &Periodic) -> Result<Answer, AllocError>
     requires { Fits rule.now periodic.now }

@@ -27,11 +27,11 @@ use Rattle.dd_values.specs.lemmas.Lists.{flat_map_agree, map_alike, all_first, a
 one_here : (k : ℕ) → one_at k k ≡ pos 1
 one_here k = ap (λ b. pos (cond b 1 0)) (eq-eqb k k refl)
 
--- the differences of `one_at`, for a and b and for c and d, agree at each number below p
+-- for each k below p: `one_at k a` less `one_at k b` is equal to `one_at k c` less `one_at k d`
 record Agree (p a b c d : ℕ) : Type 0 where
   at : (k : ℕ) → k < p → (one_at k a -ℤ one_at k b) ≡ (one_at k c -ℤ one_at k d)
 
--- at the number a the first difference is 1, so the second is 1 too, and a is c
+-- for k = a, the difference for a and b is 1; so the difference for c and d is 1 too, and a is c
 same_one : (p a b c d : ℕ) → Agree p a b c d → a < p → (a ≡ b → ⊥) → a ≡ c
 same_one p a b c d agree below apart = elim (cases_eq a c) [
   | inl same ↦ same
@@ -94,7 +94,7 @@ same_exchange p (Some e) (Some f) is is' same =
     (same_first p e.gives e.receives f.gives f.receives agree is.0 is'.0 is.2 is'.2)
     (same_first p e.receives e.gives f.receives f.gives (negated p e.gives e.receives f.gives f.receives agree) is.1 is'.1 (λ h. is.2 (sym h)) (λ h. is'.2 (sym h))))
 
--- two lists are the same part by part
+-- ps is the same as cs, and bs the same as ds
 record AreSameParts {X : Type 0} (ps bs cs ds : List X) : Type 0 where
   front : ps ≡ cs
   back : bs ≡ ds
@@ -284,10 +284,11 @@ module _ (ps : List (List ℕ)) (v : Views) (ws : List ℕ) (most : ℕ) where
       (folded_next add_row begun (required_row ps v ws) lists i d (map (dense (length ps)) old) new below before at (ap (add_row (map (dense (length ps)) old)) stands))
       many
 
--- whether two exchanges are the same, and whether two sparse rows have the same exchanges and the same bound
+-- whether two exchanges are the same
 abbrev pub same_exchange_test : Exchange → Exchange → Bool
 same_exchange_test e f = nat_eq e.gives f.gives && nat_eq e.receives f.receives
 
+-- whether two sparse rows have the same exchanges and the same bound
 abbrev pub same_sparse : SparseRow → SparseRow → Bool
 same_sparse a b = pointwise (option_eq same_exchange_test) a.exchanges.items b.exchanges.items && nat_eq a.bound b.bound
 

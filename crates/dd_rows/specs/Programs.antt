@@ -37,8 +37,7 @@ row_of x ws radius vs ps look =
     let box = box_cells x radius in
     record { coefficients = coefficients ps (pattern_at box look origin) (givers box vs look); bound = origin_weight x ws look }
 
--- The first row. It says that column 0 is at most the number of nodes times the greatest of the weights ws. No position weighs
--- more.
+-- The first row. It says that column 0 is at most the number of nodes times the greatest of the weights ws. No position weighs more than that.
 abbrev pub greatest_weight_row : LocalRule → List ℕ → List Place → List (List ℕ) → Row
 greatest_weight_row x ws vs ps = record { coefficients = pos 1 ∷ replicate (length vs * length ps) (pos 0); bound = x.nodes * greatest ws }
 

@@ -201,8 +201,8 @@ fn program_listed(
     })
 }
 
-/// The same program as that of `program_listed`, made faster: each filling in which the views show the same symbols as in the
-/// filling before is left out first.
+/// Makes the same program as `program_listed`, but faster. It first leaves out each filling in which the views show the same
+/// symbols as in the filling before.
 fn program_shown(
     alloc: Global,
     fillings: &[Items<u32>],

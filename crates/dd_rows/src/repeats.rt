@@ -8,7 +8,7 @@ use crate::views::Views;
 use dd_values::Items;
 use std::alloc::{AllocError, Global};
 
-/// The symbol of the cell with this number, or 0 past the end.
+/// The symbol of the cell with this number, or 0 if `symbols` has no such index.
 fn symbol_at(symbols: &[u32], number: usize) -> u32
     ensures { result ≡ unwrap_or (slice_get symbols.now number) 0 }
 {

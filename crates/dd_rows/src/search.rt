@@ -114,7 +114,7 @@ fn last_numbers(alloc: Global, rule: &Rule, cells: &[Cell]) -> Result<Vec<usize>
     Ok(numbers)
 }
 
-/// The last number of one cell.
+/// The last number of `cell` (see `last_numbers`).
 fn last_number(rule: &Rule, cells: &[Cell], cell: &Cell) -> usize
     requires ascending { IsStrictlySortedBy cell_cmp cells.now }
     requires node { cell.now.node < rule.now.nodes }
@@ -179,9 +179,9 @@ fn places_by_number(
 }
 
 /// All admissible fillings of the cells, in lexicographic order. Each is the list of the cells' symbols, in the order of the
-/// cells. A filling is admissible if each symbol is one that the cell's node allows, and the rule is true at each of the cells
-/// where it fits: where all that it reads has a symbol. The cells must be in cell order, each once, in range, and with nodes of
-/// the rule.
+/// cells. A filling is admissible if each symbol is one that its cell's node allows, and the rule is true at each of the cells
+/// where it fits: where each cell that it reads has a symbol. The cells must be distinct, in cell order and in range, and
+/// their nodes must be nodes of the rule.
 ///
 /// # Errors
 /// - `Large` if a prefix of the cells has more than 65,536 admissible fillings.

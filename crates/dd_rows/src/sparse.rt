@@ -12,23 +12,27 @@ use crate::views::Views;
 use dd_values::Items;
 use std::alloc::{AllocError, Global};
 
-/// What the origin exchanges along a vector, as the numbers of two different patterns. The first pattern determines the amount
-/// that the origin gives, and the second the amount that it receives.
+/// What the origin exchanges along a vector: it gives one amount and receives another. Each amount is determined by a pattern,
+/// and the two patterns have different numbers.
 #[derive(Clone, Copy, PartialEq, Eq, Hash)]
 pub(crate) struct Exchange {
+    /// The number of the pattern that determines what the origin gives.
     gives: usize,
+    /// The number of the pattern that determines what the origin receives.
     receives: usize,
 }
 
-/// A row: what the origin exchanges along each vector, and the bound. `None` means that there is no exchange along the vector:
-/// all coefficients in its columns are 0.
+/// A row in sparse form.
 #[derive(PartialEq, Eq, Hash, Drop)]
 pub(crate) struct SparseRow {
+    /// What the origin exchanges along each vector. `None` means that there is no exchange along the vector: all coefficients
+    /// in the vector's columns are 0.
     exchanges: Vec<Option<Exchange>>,
+    /// The right side of the row's inequality.
     bound: u64,
 }
 
-/// The exchange with these two patterns. If the patterns are equal, there is no exchange, since the amounts given and received
+/// The exchange with these pattern numbers. If they are equal, there is no exchange, since the amounts given and received
 /// cancel.
 fn exchange_between(gives: usize, receives: usize) -> Option<Exchange>
     ensures { result ≡ exchange_of gives receives }

@@ -94,8 +94,8 @@ fn centre(alloc: Global, cells: &[Cell], nodes: u32) -> Result<Items<usize>, All
 }
 
 impl Views {
-    /// The views of a discharge along the vectors. The boxes have this radius, and the numbers are indices in `cells`. Fails
-    /// only if memory runs out.
+    /// The views of a discharge along the vectors. The boxes have this radius, and the cells are numbered by the list
+    /// `cells`. Fails only if memory runs out.
     pub(crate) fn new(
         alloc: Global,
         rule: &Rule,

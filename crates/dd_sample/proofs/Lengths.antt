@@ -9,7 +9,7 @@ use Rattle.dd_sample.specs.Sample.{IsSampleNumber, rules_text, queries_text, sam
 fits : (xs : List ℕ) (n : ℕ) → length xs ≡ n → length xs ≤ n
 fits xs n is = omega (arith, is)
 
--- if two lists have at most m and n items, then one after the other they have at most m + n
+-- if two lists have at most m and n items, their concatenation has at most m + n
 joined : (xs ys : List ℕ) (m n : ℕ) → length xs ≤ m → length ys ≤ n → length (xs ++ ys) ≤ m + n
 joined xs ys m n few fewer = omega (arith, length-append xs ys, few, fewer)
 

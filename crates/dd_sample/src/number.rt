@@ -2,7 +2,7 @@
 ghost use Rattle.std.specs.Prelude.{◌≡◌, ◌⊎◌, ◌↔◌, IsTrue, slice_index};
 ghost use Rattle.dd_sample.specs.Sample.{IsNumberOf};
 
-// The greatest sample number. The configuration of that sample has as many symbols as a script allows, 65,536.
+// The greatest sample number. The box of that sample's configuration has 65,536 symbols, as many as a script allows.
 const LARGEST: u32 = 16_384;
 
 // Whether the word begins with a plus or a zero. `parse` reads numbers that begin so, but no sample's number is written so.

@@ -106,11 +106,12 @@ dom_means x = simp meanings
 
 -- ---- the contexts of commands
 
--- the context of a command of a sample: what is known once these rules and configurations are defined
+-- The context of a command of a sample: the text, the command's number, and what the commands before it have defined. The rules and the
+-- configurations that they have defined have these names.
 abbrev pub standing : List ℕ → ℕ → List (List ℕ) → List (List ℕ) → Context
 standing bytes number rules configurations = record { text = bytes; has_topology = false; number = number; known = known rules configurations }
 
--- the context of the command for a sample's rule or configuration, once the rules with these names are defined
+-- the context of a command that defines a rule or the configuration of a sample, once the rules with these names are defined
 abbrev pub behind : List ℕ → ℕ → List (List ℕ) → Context
 behind more number rules = standing (front_text ++ more) number rules []
 
@@ -120,7 +121,7 @@ rule_faultless : (x : Context) (s named l : ℕ) (tokens : List Lexeme) (f : For
 rule_faultless x s named l tokens f fs is =
     ap (λ (gs : List Fault). over (nat_lt 1000 x.number) limit.Commands ++ (flat_map (token_faults x.text) (w s 4 ∷ w named l ∷ tokens) ++ (named_again x.text x.known (word_at named l) ++ gs))) is
 
--- the names of the rules after the first rule command, after the second, and so on
+-- the names of the rules after the first rule command; `names_2` has those after the second, and so on
 abbrev pub names_1 : List (List ℕ)
 names_1 = codes "hard" ∷ []
 

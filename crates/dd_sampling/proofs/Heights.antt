@@ -1,4 +1,4 @@
--- The height of a sample's configuration, in decimal. So each sample is a text of the grammar.
+-- The height of a sample's configuration, in decimal. It is used to show that each sample follows the grammar.
 use Rattle.std.proofs.Common.{◌≡◌, ℕ, ◌+◌, ◌-◌, ◌*◌, ◌/◌, ◌%◌, ◌^◌, ◌<◌, ◌≤◌, List, [], ◌∷◌, ◌++◌, codes, get_or, decimal, refl, sym, ap, ◌∙◌, subst, arith}
 use Rattle.std.proofs.lemmas.Fmt.{decimal_by_steps, first_decimal}
 use Rattle.std.specs.List.{repeat}
@@ -53,7 +53,7 @@ sample_is number h =
 pub height_of : (number : ℕ) → IsSampleNumber number → Height (2 * number)
 height_of number is = height (2 * number) (omega (arith, is.0)) (omega (arith, is.1))
 
--- each sample is a text of the grammar
+-- each sample follows the grammar
 pub written : (number : ℕ) → IsSampleNumber number → (t : Syntax) × IsScript (sample_text number) t
 written number is = of_height (height_of number is)
   where

@@ -66,10 +66,11 @@ plain_rule f = local_rule square (all_symbols 1 2) f
 abbrev pub at : ℕ → ℕ → Cell
 at x y = cell (place (pos x) (pos y) (pos 0)) 0
 
--- the neighbours of the origin to the left and below
+-- the neighbour to the left of the origin
 abbrev pub left_of : Cell
 left_of = cell (place (negsuc 0) (pos 0) (pos 0)) 0
 
+-- the neighbour below the origin
 abbrev pub below : Cell
 below = cell (place (pos 0) (negsuc 0) (pos 0)) 0
 
@@ -156,7 +157,8 @@ or_clauses es = fold-roll-Expanded ℕ clause_count_step (Expanded-F.Or es)
 ruleset gates = (leaf_clauses, not_clauses, and_clauses, or_clauses)
 
 -- ---- for each rule: its expansion, how many instances and clauses the expansion has, and the cells that the rule reads
--- The instances are the expansion itself, its parts, their parts, and so on. The clauses are those of its gates.
+-- The instances are the expansion itself, its parts, their parts, and so on. The clauses are those that the expansion takes once it is written as
+-- gates of a circuit.
 pub record Counts (f : Formula) (e : Expanded) (nodes clauses : ℕ) (cells : List Cell) : Type 0 where
   pub expanded : expansion_at (plain_rule f) 0 ≡ e
   pub nodes_are : instances e ≡ nodes

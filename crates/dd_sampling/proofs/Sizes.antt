@@ -26,7 +26,7 @@ limits = record { radius = 3; period = 3; pivots = 1000 }
 abbrev pub setting : Setting
 setting = record { nodes = codes "0" ∷ []; symbols = codes "0" ∷ codes "1" ∷ []; topology = square; sets = all_symbols 1 2 }
 
--- what is known once these rules and configurations are defined
+-- what is known once the rules and the configurations with these names are defined
 abbrev pub known : List (List ℕ) → List (List ℕ) → Known
 known rules configurations =
     record {

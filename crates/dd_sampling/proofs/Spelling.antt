@@ -78,7 +78,7 @@ limits_none more = refl
 limits_next : (more : List ℕ) → next (front_text ++ more) false 1 start limits_written ≡ state [] [] [] [] []
 limits_next more = refl
 
--- the rule commands from a given one to the last, followed by further commands
+-- the command of the rule `dom`, followed by further commands; each of the four definitions below adds the rule command that comes before
 abbrev from_dom : List Written → List Written
 from_dom ws = rule_written 150 155 3 dom_text dom ∷ ws
 
@@ -124,7 +124,7 @@ question_more bytes n p tiles qs a ws none rest =
 abbrev NoneFrom : List ℕ → ℕ → List Tile → List Written → Type 0
 NoneFrom bytes n tiles ws = (qs : List Query) → first_from bytes false n (state names_5 rules_5 (codes "c" ∷ []) tiles qs) ws ≡ None
 
--- the query commands from a given one to the last
+-- the last query command; each of the five definitions below adds the query command that comes before
 abbrev asking_discharge : ℕ → List Written
 asking_discharge p = question_written p discharge_dom ∷ []
 

@@ -1,5 +1,5 @@
--- The commands of a sample are well formed and in an allowed order: the stage of each command is at least the lowest one that the command before it
--- allows. (The stage of a command is a number: no command may follow one of a higher stage.)
+-- The commands of a sample are well formed and in an allowed order. Each command has a stage, which is a number. The order is allowed if the stage of
+-- each command is at least that of the command before it, and greater if a script may have the command before it only once.
 use Rattle.std.proofs.Common.{◌≡◌, ℕ, zero, suc, ◌+◌, ◌≤◌, List, [], ◌∷◌, ◌++◌, length, map, true, codes, refl, sym, ap, ◌∙◌, subst, arith, length-append}
 use Rattle.std.proofs.lemmas.List.{length-map}
 use Rattle.std.specs.List.{list_all}

@@ -86,7 +86,7 @@ no_hyphen d ds low = ap (λ (b : Bool). if b then ds else d ∷ ds) (ne_eqb d 45
 height_value : (d : ℕ) (ds : List ℕ) (k h : ℕ) → 49 ≤ d → value_from 0 (d ∷ ds) ≡ h → written_value (front_text ++ from_digits d ds k) (number_at 181 (1 + length ds)) ≡ h
 height_value d ds k h low is = ap (λ (t : List ℕ). value_from 0 (unsigned t)) (height_text d ds k) ∙ (ap (value_from 0) (no_hyphen d ds low) ∙ is)
 
--- the faults of the configuration's fundamental box, computed from its height and the number of its symbols
+-- the faults of the configuration's box, computed from the height of the box and the number of symbols in it
 abbrev box_by : ℕ → ℕ → List Fault
 box_by h count = if 2 * (h * 1) * 1 == count then over (nat_lt 65536 count || nat_le 2 0) limit.Periods else fault.Dimension ∷ []
 

@@ -28,7 +28,7 @@ front_tokens = (tokens_of front_text).list
 abbrev pub tail_tokens : List Token
 tail_tokens = (tokens_of tail_text).list
 
--- a sample up to the end of its symbols, which are n turns; its height is written as the digit d and then the digits ds
+-- a sample up to the end of its symbols, which are n turns; the configuration's height is written as the digit d and then the digits ds
 abbrev pub upper : ℕ → List ℕ → ℕ → List ℕ
 upper d ds n = front_text ++ (d ∷ (ds ++ 93 ∷ repeat n turn))
 

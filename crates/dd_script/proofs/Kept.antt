@@ -32,7 +32,7 @@ light_range n le = λ i d lt. omega (arith, le, length-range_with_len 0 n, get_o
 second_none : {X Y : Type 0} (o : Option Y) (f : X → Y) (p : Option X) → option_or o (option_map f p) ≡ None → p ≡ None
 second_none o f p e = grind arith
 
--- the sets of allowed symbols are well formed: each node allows one symbol or more
+-- the sets of allowed symbols are well formed; so each node allows one symbol or more
 abbrev pub HasSets : Known → Type 0
 HasSets k = IsSets (length k.setting.sets.allowed) k.setting.sets
 

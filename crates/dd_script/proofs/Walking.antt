@@ -85,7 +85,8 @@ module _ (text : List ℕ) (ws : List Written) (i : ℕ) (d : Draft) (w : Writte
   pub written_here : All (IsWritten text) ws → IsWritten d.context.text w
   written_here all = rw (sofar.same_text, is) (All-get_or (IsWritten text) ws i w lt all)
 
-  -- the command at the index i has no fault, and its meaning is added; if each node then allows some symbols, `Sofar` holds for one command more
+  -- the command at the index i has no fault, and its meaning is added; if the sets of allowed symbols are then well formed, `Sofar` holds for one
+  -- command more
   pub goes_on : (m : Meaning) → Means d w m → (e : Draft) → e ≡ with_meaning d m → HasSets e.context.known → Sofar text ws (i + 1) e
   goes_on m means e added has =
       let all : e ≡ with_meaning d (meant d w) = added ∙ ap (with_meaning d) means.is in

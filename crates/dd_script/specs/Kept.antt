@@ -19,10 +19,12 @@ pub record IsScriptOf (s : Parts) : Type 0 where
   -- the nodes, symbols, topology, allowed symbols and weights fit together; the numbers of nodes and symbols, the weights and the search limits are
   -- in range
   pub known : IsSound s.known
-  -- There are as many rules, automata and configurations as names of them. The rules, and the rules in automata, are over the script's topology, its
-  -- symbols, and the symbols that its nodes allow. The automata and the configurations have the script's dimension, nodes and symbols. In a
-  -- configuration, each cell has a symbol that its node allows.
+  -- there are as many rules as names of rules, and each rule is over the script's topology, its symbols, and the symbols that its nodes allow
   pub rules : AreNamed (IsRuleOf s.known.setting) s.known.rules s.rules
+  -- There are as many automata as names of automata. Each automaton has the script's dimension, nodes and symbols. The rules in it are over the
+  -- script's topology, its symbols, and the symbols that its nodes allow.
   pub automata : AreNamed (IsAutomatonOf s.known.setting) s.known.automata s.automata
+  -- There are as many configurations as names of configurations. Each configuration has the script's dimension, nodes and symbols, and gives each
+  -- cell a symbol that the cell's node allows.
   pub configurations : AreNamed (IsConfigurationOf s.known.setting) s.known.configurations s.configurations
   pub queries : All (IsQueryOf s) s.queries

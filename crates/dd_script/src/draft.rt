@@ -23,11 +23,13 @@ use dd_values::{Boxed, Items};
 use dd_written::{Name, Text, Word, name_text};
 use std::alloc::{AllocError, Global};
 
-/// A draft. `context` is the context of the next command: the text, whether it has a `topology` command, the next command's
-/// number, and what the commands before it set and name. `made` holds what they define and ask.
+/// An unfinished script, made by the commands read so far.
 #[derive(Drop)]
 pub(crate) struct Draft {
+    /// The context of the next command: the text, whether the text has a `topology` command, the next command's number, and
+    /// what the commands before it set and name.
     pub(crate) context: Context,
+    /// What the commands before the next one define and ask.
     pub(crate) made: Made,
 }
 

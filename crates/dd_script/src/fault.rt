@@ -18,10 +18,11 @@ pub enum ScriptKind {
     /// cell whose node doesn't allow it.
     #[error("unknown name {0}")]
     Unknown(String),
-    /// This name is given twice where it may be given only once. If a discharge has a vector twice, the string is `vector`.
+    /// This name is given twice where it may be given only once. If a discharge query has a vector twice, the string is
+    /// `vector`.
     #[error("{0} is given twice")]
     Twice(String),
-    /// The dimension, or a number of nodes, symbols, weights or entries, does not fit.
+    /// The dimension, or a number of nodes, symbols, weights or vector entries, does not fit.
     #[error("wrong dimension, or wrong number of nodes, symbols, weights or entries")]
     Dimension,
     /// This limit on scripts is exceeded.
@@ -32,13 +33,15 @@ pub enum ScriptKind {
     Memory,
 }
 
-/// Why a text is not a script. `command` is the number of the first command that is not well formed. If all are well formed, it
-/// is the number of the first command with a fault, and `kind` is the first fault of that command, in the order that `parse`
-/// states. Commands are numbered from 1. The number is 0 if some token stands before the first command, or if memory ran out.
+/// Why a text is not a script, and at which command.
 #[derive(Debug, Drop, Error)]
 #[error("command {command}: {kind}")]
 pub struct ScriptFault {
+    /// The number of the first command that is not well formed. If all are well formed, the number of the first command with a
+    /// fault. Commands are numbered from 1. The number is 0 if some token stands before the first command, or if memory ran
+    /// out.
     pub command: u32,
+    /// Why the text is refused. If the command is well formed, this is its first fault, in the order that `parse` states.
     pub kind: ScriptKind,
 }
 

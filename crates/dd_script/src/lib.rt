@@ -1,12 +1,13 @@
 //! Scripts: from bytes to the rules, automata and configurations that a script defines, and the queries that it asks.
 //!
-//! Each position of the lattice has one or more nodes, and a cell is a position together with one of its nodes. A configuration
-//! gives each cell a symbol. A rule is a formula about a cell and the cells near it. A configuration obeys a rule if the rule
-//! is true at every cell. An automaton maps configurations to configurations. It is given by cases, each of them a rule with a
-//! symbol, and by a symbol for where none of these rules is true; or it is the composition of two automata. The commands of a
-//! script's header come first. They set the dimension, the nodes, the symbols, the topology (the edges between cells), which
-//! symbols each node allows, the weights of the symbols, and search limits. The commands after the header define rules,
-//! automata and periodic configurations, and ask queries.
+//! Each position of the lattice has one or more nodes, and a cell is a position together with one of its nodes. A
+//! configuration gives each cell a symbol. A rule is a formula about a cell and the cells near it. A configuration obeys a
+//! rule if it gives each cell a symbol that the cell's node allows, and the rule is true at every cell. An automaton maps
+//! configurations to configurations. An automaton may be given by cases, each of them a rule with a symbol. It then gives a
+//! cell the symbol of the first case whose rule is true there, or a default symbol if there is no such case. Any other
+//! automaton is the composition of two automata. The commands of a script's header come first. They set the dimension, the
+//! nodes, the symbols, the topology (the edges between cells), which symbols each node allows, the weights of the symbols, and
+//! search limits. The commands after the header define rules, automata and periodic configurations, and ask queries.
 //!
 //! Each query asks a question, which holds the rules, automata and configurations themselves, not their names. A box question
 //! has a rule, the premise, and a goal: something that may hold at a position, such as that another rule is broken there. It

@@ -54,9 +54,9 @@ fn refusal_for(
     Ok(ScriptFault { command, kind })
 }
 
-/// Adds all commands of a text to the draft, which is the draft before the first of them. If some command has a fault, the
-/// error gives the number of the first such command, and the first fault of that command. The error may also say that memory
-/// ran out.
+/// Adds all commands of a text to the draft. The draft must be the one before the first of these commands. If some command has
+/// a fault, the error gives the number of the first such command, and the first fault of that command. The error may also say
+/// that memory ran out.
 fn walk(alloc: Global, draft: &mut Draft, commands: &[Written]) -> Result<(), ScriptFault>
     requires begun { draft.old ≡ draft_of draft.old.context.text (has_topology commands.now) 1 start }
     requires kept { IsScriptOf start }

@@ -20,13 +20,14 @@ pub(crate) struct Made {
     pub(crate) queries: Items<Query>,
 }
 
-/// The contents of a script. `known` holds the script's nodes, symbols and topology, which symbols each node allows, the
-/// weights of the symbols, the search limits, and the names of the rules, automata and configurations. It also records whether
-/// the script named its nodes, and for which nodes it restricted the symbols. `made` holds the rules, automata and
-/// configurations themselves, and the queries.
+/// The contents of a script.
 #[derive(Drop)]
 pub(crate) struct Contents {
+    /// The script's nodes, symbols and topology, which symbols each node allows, the weights of the symbols, the search limits,
+    /// and the names of the rules, automata and configurations. Also whether the script named its nodes, and for which nodes it
+    /// restricted the symbols.
     pub(crate) known: Known,
+    /// The rules, automata and configurations themselves, and the queries.
     pub(crate) made: Made,
 }
 
@@ -181,7 +182,7 @@ impl Script {
         }
     }
 
-    /// What a query of the script asks, with rules, automata and configurations in place of their indices. `pairs` are the
+    /// What a query of the script asks, with rules, automata and configurations in place of their indices. `pairs` must be the
     /// pairs that `Script::pairs` returns for the query. The checked question has the script's search limits. A question about
     /// a density, a least weight or a discharge has the script's weights. The call allocates nothing.
     pub fn question<'a>(&'a self, query: &'a Query, pairs: &'a [Pair]) -> CheckedQuestion<'a>

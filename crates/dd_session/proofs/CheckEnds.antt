@@ -1,5 +1,5 @@
--- How a check ended, and what its status says about the bytes of the source, if these are known.
--- A comment that only says what happened names the case that its lemma is about.
+-- How a check ended, and what its status says about the bytes of the source, if these are known. If a comment only says what happened, its lemma is
+-- about that case.
 use Rattle.std.proofs.Common.{◌≡◌, ◌≢◌, inl, inr, ℕ, suc, ◌+◌, ◌≤◌, List, [], ◌++◌, Bool, true, false, None, Some, refl, sym, ◌∙◌, ap, subst, length, arith, append-nil, length-append}
 use Rattle.std.proofs.KnownBytes.{Consumes-nil}
 use Rattle.std.specs.declared.option.Option.{Option}

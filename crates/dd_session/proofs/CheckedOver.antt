@@ -1,5 +1,4 @@
--- What a check of bytes wrote, put together from what its parts wrote.
--- A comment that only says what happened names the case that its lemma is about.
+-- What a check of bytes wrote, put together from what its parts wrote. If a comment only says what happened, its lemma is about that case.
 use Rattle.std.proofs.Common.{◌≡◌, ◌≤◌, length, inl, inr, ℕ, List, Bool, true, false, codes, string_bytes, refl, sym, ap, subst}
 use Rattle.std.specs.declared.option.Option.{Option}
 use Rattle.dd_certificate.specs.declared.answer.Answer.{Answer}

@@ -1,5 +1,5 @@
--- Which engines are asked as one query after another is answered, and when no engine is asked.
--- A comment that only says what happened names the case that its lemma is about.
+-- Which engines are asked as one query after another is answered, and when no engine is asked. If a comment only says what happened, its lemma is
+-- about that case.
 use Rattle.std.proofs.Common.{◌≡◌, ◌⊎◌, ℕ, ◌+◌, ◌<◌, ◌≤◌, List, [], ◌∷◌, ◌++◌, length, take, get_or, Bool, true, false, Some, None, refl, sym, ◌∙◌, subst, inl, inr, Result, Ok, Err}
 use Rattle.std.proofs.{KnownBytes.Appends-trans, lemmas.Bool.false≢true}
 use Rattle.std.specs.{Prelude.IsSomeAnd, Prelude.IsTrue, Prelude.IfOk, Prelude.OnErr, declared.option.Option.Option, Io.KnownBytes.Appends}

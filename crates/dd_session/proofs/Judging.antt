@@ -1,4 +1,4 @@
--- The check of answers, one after another. A comment that only says what happened names the case that its lemma is about.
+-- The check of answers, one after another. If a comment only says what happened, its lemma is about that case.
 use Rattle.std.proofs.Common.{◌≡◌, ◌⊎◌, inl, inr, ℕ, suc, ◌+◌, ◌-◌, ◌<◌, ◌≤◌, max, List, [], ◌∷◌, ◌++◌, length, get_or, Bool, true, false, ◌||◌, None, Some, refl, sym, ◌∙◌, ap, subst, arith, append-nil, add-one}
 use Rattle.std.proofs.{KnownBytes.Appends-trans, lemmas.Bool.cases_lt, lemmas.Option.slice_get_within, lemmas.Option.slice_get_read}
 use Rattle.std.specs.{Prelude.◌↔◌, Prelude.IsSomeAnd, Prelude.Result, Prelude.Ok, Prelude.Err, Prelude.OnErr, List.slice_get, List.list_any}

@@ -1,5 +1,4 @@
--- What the run of a sample wrote, for each way in which it may end.
--- A comment that only says what happened names the case that its lemma is about.
+-- What the run of a sample wrote, for each way in which it may end. If a comment only says what happened, its lemma is about that case.
 use Rattle.std.proofs.Common.{◌≡◌, ◌≢◌, ℕ, List, Bool, true, false, refl, sym, ◌∙◌, subst, inl, inr}
 use Rattle.std.specs.Prelude.{string_bytes}
 use Rattle.dd_certificate.specs.Text.{answer_line}

@@ -1,5 +1,5 @@
--- How the texts of answers, or their first lines, follow one another, and how much of an output is written if it is cut short.
--- A comment that only says what happened names the case that its lemma is about.
+-- How the texts of answers, or their first lines, follow one another, and how much of an output is written if it is cut short. If a comment only says
+-- what happened, its lemma is about that case.
 use Rattle.std.proofs.Common.{◌≡◌, ℕ, ◌+◌, ◌<◌, List, [], ◌∷◌, ◌++◌, length, take, drop, get_or, Bool, true, false, ◌||◌, refl, sym, ◌∙◌, ap, subst, inl, inr, Result, Ok, Err, IfOk, OnOk, OnErr, append-nil, append_assoc, length-append, take-append-drop, length-take-le, arith}
 use Rattle.std.proofs.{KnownBytes.Appends-trans, KnownBytes.Appends-nil, lemmas.List.take_more}
 use Rattle.std.specs.{declared.option.Option.Option, Io.KnownBytes.Appends}

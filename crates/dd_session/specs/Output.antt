@@ -61,8 +61,8 @@ refused_line words command k = words ++ (codes " " ++ (decimal command ++ (codes
 abbrev pub refused_words : List ℕ
 refused_words = codes "refused"
 
--- `line` is the line for bytes that aren't a script, where the fault in this command is of this kind; if memory ran out, there is
--- no line
+-- `line` is the line with these words (see `refused_line`) for a fault of this kind in the command with this number; if the kind is that memory ran
+-- out, there is no line
 abbrev pub IsLineOf : List ℕ → ℕ → ScriptKind → List ℕ → Type 0
 IsLineOf words command refused.Syntax line = line ≡ refused_line words command syntax
 IsLineOf words command (refused.Unknown name) line = line ≡ refused_line words command (unknown (string_bytes name))

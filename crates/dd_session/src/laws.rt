@@ -20,7 +20,7 @@ pub fn runs_are_accepted(script: &Script)
     ensures same_status { (bytes text : List ℕ) (has : Bool) (status : AnyStatus) → IsRunOutput bytes script.now has text → length text ≤ most_checked →
         CheckDecides text status → IsJudgement status → status ≡ status_of has }
 {
-    // This call tells the proof what the type guarantees.
+    // This call tells the proof what the type `Script` guarantees.
     let _limits = script.limits();
     right_is_certificate();
     certified(script);

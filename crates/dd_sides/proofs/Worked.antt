@@ -64,9 +64,9 @@ alternating c = Some ((unsigned_abs c.position.x + 1) % 2)
 two_of_four : side_weight line (0 ∷ 3 ∷ []) alternating 4 (place (negsuc 0) (pos 0) (pos 0)) ≡ 6
 two_of_four = refl
 
--- Suppose that of any two neighbours on a line at least one has the symbol 1. The bound is 1 / 2: over the denominator 2, a 0
--- gives 0 to the right, and a 1 gives 1. Of three positions 0 1 0 only the middle one has a 1. What may come in from the left
--- makes up for the rest: 3 = 2 * 1 + 1.
+-- Suppose that of any two neighbours on a line at least one has the symbol 1. The bound is 1 / 2. A position with the symbol 1 gives 1 / 2 to the
+-- right, and one with the symbol 0 gives nothing. Of three positions with the symbols 0, 1 and 0, only the middle one has a 1. What may come in from
+-- the left makes up for the rest. Over the denominator 2: 3 = 2 * 1 + 1.
 abbrev middle : Look
 middle c = Some (unsigned_abs c.position.x % 2)
 

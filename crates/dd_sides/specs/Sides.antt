@@ -47,7 +47,8 @@ pub record IsSideFilling (x : LocalRule) (n e : ℕ) (u : Place) (look : Look) :
   pub domain : (c : Cell) → is_some (look c) ≡ is_grown_cell x n e u c
   pub allowed : AreAllowed x look
 
--- the weight of a position: the sum over its cells, one for each node; a cell without a symbol counts as one with the symbol 0
+-- the weight of a position: the sum of the weights of its cells' symbols, with one cell for each node; a cell without a symbol counts as having the
+-- symbol 0
 abbrev pub position_weight : LocalRule → List ℕ → Look → Place → ℕ
 position_weight x ws look p = total_weight ws (map (λ a. unwrap_or (look (cell p a)) 0) (range_with_len 0 x.nodes))
 

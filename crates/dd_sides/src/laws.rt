@@ -14,7 +14,7 @@ ghost use Rattle.dd_sides.specs.Lifted.{HoldsOnSides};
 
 /// Does nothing; its contract describes the box of side n at u, for n at least 1. The box has the positions of Side(n), moved
 /// by u. Here Side(n) is the box of side n whose least corner is the origin. A sum over the box counts each of its positions
-/// once. Grown by e, the box has exactly the positions within e of it.
+/// once. The box grown by e has exactly the positions that are, along each axis, at most e away from a position of the box.
 #[tactic(auto, using(crate::proofs::SideParts::side_is))]
 pub fn sides_are()
     ensures { (d n : ℕ) (u : Place) → 1 ≤ d → 1 ≤ n → is_flat d u ≡ true → IsSide d n u }

@@ -1,4 +1,5 @@
--- A choice among the first n places, the order by ratio, then by variable, and the steps of the loop that chooses the line whose variable leaves.
+-- A choice among the first n places; the order by ratio and, if the ratios are equal, by variable; and the steps of the loop that chooses the line
+-- whose variable leaves.
 use Rattle.std.proofs.Common.{◌≡◌, ◌≢◌, ℕ, ◌+◌, ◌≤◌, List, Option, Some, None, Bool, true, false, ◌&&◌, ◌||◌, ⊎_elim, sym, ap, subst, ◌∙◌, arith}
 use Rattle.std.proofs.lemmas.{Int.ints, Bool.cases_eq}
 use Rattle.std.specs.{Bool.nat_lt, Int.RustNames.int_lt, Ordering.is_lt, Ordering.is_eq, declared.cmp.Ordering.Ordering}
@@ -111,8 +112,8 @@ fits_more lines e n h f i p g = ⊎_elim
     (λ (s : i ≢ n). h i (omega (arith, p, s)) g)
     (cases_eq i n)
 
--- what the first n lines give: the numbers of the ratios of those that limit the entering variable fit, o is the line chosen among them, and `least`
--- is its ratio, if there is one
+-- What the first n lines give. For each line that limits the entering variable, the numbers of its ratio fit. Of these lines, o is the chosen one,
+-- and `least` is its ratio. If there are no such lines, o is `None`.
 pub record IsFound (lines : List Line) (e n : ℕ) (least : Exact) (o : Option ℕ) : Type 0 where
   pub fit : DoRatiosFit lines e n
   pub chosen : IsChosen (does_limit lines e) (LeavesBefore lines e) n o

@@ -191,7 +191,7 @@ module _ (p : LinearProgram) (d : Dictionary) (g : IsProgram p) (r : IsReached p
           ∙ ((λ i. plus (sym (column_alone j t (dictionary_coefficient d v)) i) (sym slacks i))
           ∙ (side_at zero_of (λ w. unit w j) (λ k. minus (coefficient p k j)) (column_meets j t) v q b ∙ zero_times (d.bound v)))
 
-  -- ---- no feasible values of the columns give more
+  -- ---- no feasible values of the columns give column 0 a greater value
   no_more : entering (count p) d ≡ None → (xs : List Exact) → IsFeasible p xs → IsAtMost (fraction_at xs 0) d.value
   no_more h xs f = at_most_from_less X d.value (fraction_at xs 0) sum less
     where

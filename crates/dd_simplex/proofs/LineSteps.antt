@@ -1,4 +1,4 @@
--- The lines of a pivot: the leaving line, those after it, and all lines together; then the whole table.
+-- The lines of a pivot: the leaving line, which is the one whose variable leaves, those after it, and all lines together; then the whole table.
 use Rattle.std.proofs.Common.{◌≡◌, ℕ, zero, suc, ◌+◌, ◌<◌, List, [], ◌∷◌, ◌++◌, length, take, drop, add-one, refl, sym, ap, subst, ◌∙◌, arith, drop-cons}
 use Rattle.std.proofs.lemmas.List.{Elements.All-drop, Elements.All-weaker, length-map, get_or-set_same}
 use Rattle.std.specs.{Prelude.map, List.All, List.slice_set}
@@ -22,7 +22,7 @@ back_sizes rows back leaving new r v e p s sizes n =
     All-weaker (λ l. length l.cells ≡ length (line_at rows r).cells) (λ l. length l.cells ≡ length new.cells) (λ l h. h ∙ sym size) back
     (subst (All (λ l. length l.cells ≡ length (line_at rows r).cells)) (sym parts.1) (All-drop (λ l. length l.cells ≡ length (line_at rows r).cells) (suc r) rows sizes))
 
--- applying f to all elements but the one at r, which p replaces, is the same as applying f to all elements and then replacing the one at r by p
+-- putting p at index r and applying f to all other elements gives the same list as applying f to all elements and then putting p at index r
 rows_go : {A B : Type 0} (f : A → B) (xs : List A) (r : ℕ) (p : B) → r < length xs → map f (take r xs) ++ p ∷ map f (drop (suc r) xs) ≡ slice_set (map f xs) r p
 rows_go f [] r p h = absurd (omega arith)
 rows_go f (x ∷ xs) zero p h = refl

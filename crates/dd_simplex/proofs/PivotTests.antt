@@ -83,7 +83,7 @@ module _ (n : ℕ) (t : Table) (d : Dictionary) (k : IsTable t) (s : StandsFor n
       subst (λ (a : Exact). 0 < a.den) (sym at)
       (let l = IsLowest-times (fraction_at (slice_set (line_at t.lines r).cells e one_of) j) (inverse (fraction_at (line_at t.lines r).cells e)) in l.positive)
 
-  -- ---- the coefficients `us` of a line whose coefficient at e is q
+  -- ---- the coefficients `us`, with 0 at the place e, less q times the cells of the solved line
   emptied_size : (us : List Exact) → length us ≡ length t.others → length (slice_set us e zero_of) ≡ length pivot.cells
   emptied_size us h = length-set us e zero_of ∙ (h ∙ sym pivot_length)
 
@@ -151,7 +151,7 @@ module _ (n : ℕ) (t : Table) (d : Dictionary) (k : IsTable t) (s : StandsFor n
               ∙ (ap (λ (b : Bool). cond b (does_product_fit q (new_entry d E R R)) (does_less_fit (a (other_at t.others j)) q (new_entry d E R (other_at t.others j)))) (sym (eq_other (other_at t.others j) E (columns_apart j p v))) ∙ test j p))
               (cases_eq j e)
 
-  -- ---- the leaving row
+  -- ---- the row of the variable that leaves
   pub row_stands : does_solved_fit e (line_at t.lines r) ≡ does_row_fit n d E R
   row_stands = same_bool _ _ there back
     where

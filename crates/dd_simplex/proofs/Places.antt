@@ -1,4 +1,4 @@
--- What each place holds after a loop over cells, and each line after a pivot, and whether the numbers of a place fit.
+-- What each place holds after a loop over cells, what each line is after a pivot, and whether the numbers of a place fit.
 use Rattle.std.proofs.Common.{◌≡◌, ◌≢◌, ℕ, zero, suc, ◌+◌, ◌<◌, List, [], ◌∷◌, length, get_or, take, drop, Bool, true, ◌&&◌, refl, sym, ap, ◌∙◌, arith}
 use Rattle.std.proofs.lemmas.List.{length-map, length-set, get_or-set_same, get_or-set_other}
 use Rattle.std.specs.{Prelude.map, List.slice_set, List.list_all}

@@ -65,7 +65,7 @@ pub total_nonneg : (f : ℕ → Exact) (n : ℕ) → ((v : ℕ) → v < n → Is
 total_nonneg f zero h = zero_nonneg
 total_nonneg f (suc n) h = nonneg_plus (fraction_sum f n) (f n) (total_nonneg f n (λ v p. h v (omega (arith, p)))) (h n (omega arith))
 
--- sums of coefficient times value, where all coefficients are multiplied by k, or where q times other coefficients are added to them
+-- a sum of coefficients times values: if each coefficient is multiplied by k, so is the sum
 pub sum_scaled : (f g x : ℕ → Exact) (k : Exact) (n : ℕ) → ((w : ℕ) → w < n → f w ≡ times (g w) k)
     → fraction_sum (λ w. times (f w) (x w)) n ≡ times (fraction_sum (λ w. times (g w) (x w)) n) k
 sum_scaled f g x k n h =
@@ -73,6 +73,7 @@ sum_scaled f g x k n h =
     (λ w p. ap (λ (t : Exact). times t (x w)) (h w p ∙ times_comm (g w) k) ∙ times_assoc k (g w) (x w))
     ∙ (total_times k (λ w. times (g w) (x w)) n ∙ times_comm k (fraction_sum (λ w. times (g w) (x w)) n))
 
+-- if q times b w is added to each coefficient g w, then q times the sum for b is added to the sum for g
 pub sum_with : (f g b x : ℕ → Exact) (q : Exact) (n : ℕ) → ((w : ℕ) → w < n → f w ≡ plus (g w) (times q (b w)))
     → fraction_sum (λ w. times (f w) (x w)) n ≡ plus (fraction_sum (λ w. times (g w) (x w)) n) (times q (fraction_sum (λ w. times (b w) (x w)) n))
 sum_with f g b x q n h =

@@ -35,15 +35,17 @@ fraction_quotient a b = times a (inverse b)
 abbrev pub less_product : Exact → Exact → Exact → Exact
 less_product a q b = plus a (minus (times q b))
 
--- In a pivot, the variable e enters, so it becomes basic, and r leaves. The new row of e is the old row of r, solved for e.
+-- In a pivot, the variable e enters, so it becomes basic, and r leaves. The new row of e is the old row of r, solved for e. This is the bound of the
+-- new row.
 abbrev pub new_bound : Dictionary → ℕ → ℕ → Exact
 new_bound d e r = fraction_quotient (d.bound r) (d.entry r e)
 
+-- the entry of the new row of e at w; at w = r it comes from the coefficient 1 of r in the old row of r
 abbrev pub new_entry : Dictionary → ℕ → ℕ → ℕ → Exact
 new_entry d e r w = fraction_quotient (cond (nat_eq w r) one_of (d.entry r w)) (d.entry r e)
 
--- the new coefficient of w in a row that stays or in the objective, where the old coefficient of w was a and that of e was q; for r, which was basic
--- and so had the coefficient 0, a is not used
+-- The new coefficient of w in a row that stays or in the objective. The old coefficient of w was a, and that of e was q. If w is r, a is not used,
+-- since r was basic and so had the coefficient 0.
 abbrev pub replaced : Dictionary → ℕ → ℕ → Exact → ℕ → Exact → Exact
 replaced d e r q w a = cond (nat_eq w r) (minus (times q (new_entry d e r w))) (less_product a q (new_entry d e r w))
 

@@ -19,7 +19,7 @@ pub record HasOneStop (p : LinearProgram) (k : ℕ) : Type 0 where
   pub overflow_alone : RunOverflows p k → RunPivots p k → ⊥
   pub same_end : (a b : DoesEnd p k) → (a.value ≡ b.value) × (a.columns ≡ b.columns) × (a.duals ≡ b.duals)
 
--- what `next` gives after one pivot from d, or `None` if no variable enters or none leaves
+-- what `next` gives for the dictionary after one pivot from d, or `None` if no variable enters or none leaves
 abbrev pub after_iteration : (Dictionary → Option Dictionary) → Dictionary → Option ℕ → Option ℕ → Option Dictionary
 after_iteration next d (Some e) (Some r) = next (pivoted d e r)
 after_iteration next d (Some e) None = None

@@ -5,7 +5,7 @@ use Rattle.std.specs.Bool.{nat_eq}
 use lib.IntN.{ℤ, pos}
 use Rattle.dd_fraction.specs.{Exact.Exact, Exact.plus, Exact.times, Exact.whole_of, Order.IsAtMost, Order.IsNonneg}
 
--- the row "the sum of coefficient times column is at most the bound"
+-- the row "the sum of the columns, each times its coefficient, is at most the bound"
 pub record ProgramRow : Type 0 where
   pub coefficients : List Exact
   pub bound : Exact

@@ -45,7 +45,7 @@ ratio d e v = fraction_quotient (d.bound v) (d.entry v e)
 abbrev pub is_limiting : Dictionary → ℕ → ℕ → Bool
 is_limiting d e v = d.is_basic v && is_over (d.entry v e)
 
--- whether v is a limiting variable, and no other limiting variable has a smaller ratio
+-- whether v is a limiting variable, and no limiting variable below n has a smaller ratio
 abbrev pub may_leave : ℕ → Dictionary → ℕ → ℕ → Bool
 may_leave n d e v =
     is_limiting d e v && all_below (λ u. not (is_limiting d e u) || not (is_gt (exact_cmp (ratio d e v) (ratio d e u)))) n

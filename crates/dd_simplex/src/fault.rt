@@ -11,7 +11,7 @@ pub enum SimplexFault {
     /// An intermediate number of the run is greater than 2^127 - 1 in absolute value.
     #[error("a number of the simplex run exceeds 127 bits")]
     Overflow,
-    /// The run needs more pivots than its limit.
+    /// A variable may still enter after as many pivots as the limit allows.
     #[error("the simplex run exceeds its limit of pivots")]
     Pivots,
     /// Memory ran out.

@@ -3,9 +3,9 @@ ghost use Rattle.dd_simplex.specs.Laws.{HasOneStop, AreSoundDictionaries};
 
 use crate::program::Program;
 
-/// Does nothing; its contract says that a run of the program with at most `_pivots` pivots stops in exactly one of three ways.
-/// It ends with a result, and there is only one; an intermediate number is greater than 2^127 - 1 in absolute value; or the run
-/// reaches its limit of pivots.
+/// Does nothing; its contract says that a run of the program with at most `_pivots` pivots stops in exactly one of three ways:
+/// it ends with a result, an intermediate number is greater than 2^127 - 1 in absolute value, or the run reaches its limit of
+/// pivots. It ends with at most one result.
 pub fn one_stop(_program: &Program, _pivots: u32)
     ensures { HasOneStop _program.now _pivots }
 {

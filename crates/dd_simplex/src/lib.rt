@@ -3,10 +3,10 @@
 //! slack of a row is its bound less its left side. The objective is column 0, which is made as great as possible. Duals are
 //! factors for the rows. They show that the value found for column 0 is the greatest (see `Solved`).
 //!
-//! The variables of a dictionary are the columns and the slacks. They are numbered: first the columns, then the slacks in the
-//! order of the rows. Some variables are basic, and the others are nonbasic. The dictionary has an equation for each basic
-//! variable, and one for the objective, in terms of the nonbasic variables. The bound of a basic variable is the constant in
-//! its equation. The cost of a nonbasic variable is its coefficient in the objective.
+//! A dictionary is a system of equations. Its variables are the columns and the slacks. They are numbered: first the columns,
+//! then the slacks in the order of the rows. Some variables are basic, and the others are nonbasic. The dictionary has an
+//! equation for each basic variable, and one for the objective, in terms of the nonbasic variables. The bound of a basic
+//! variable is the constant in its equation. The cost of a nonbasic variable is its coefficient in the objective.
 //!
 //! In a pivot, one nonbasic variable enters, which means that it becomes basic, and one basic variable leaves, which means that
 //! it becomes nonbasic. A nonbasic variable may enter if its cost is greater than 0. A basic variable may then leave if it

@@ -94,7 +94,8 @@ fn is_zero(fraction: &Fraction) -> bool
     fraction.num() == 0
 }
 
-/// Divides each cell by `by`. Returns false if a number is too large; then the cells from there on are not divided.
+/// Divides each cell by `by`. Returns false at the first cell for which a number is too large. Then this cell and those
+/// after it are not divided.
 fn divide(cells: &mut [Fraction], by: &Fraction) -> bool
     requires { by.now.num ≢ pos 0 }
     ensures fits { result ≡ list_all (λ a. does_product_fit a (inverse by.now)) cells.old }
@@ -109,8 +110,8 @@ fn divide(cells: &mut [Fraction], by: &Fraction) -> bool
     true
 }
 
-/// Subtracts `factor` times `others` from the cells, place by place. Returns false if a number is too large; then the cells
-/// from there on are unchanged.
+/// Subtracts `factor` times `others` from the cells, place by place. Returns false at the first cell for which a number is
+/// too large. Then this cell and those after it are unchanged.
 pub fn subtract(cells: &mut [Fraction], factor: &Fraction, others: &[Fraction]) -> bool
     requires { length cells.old ≡ length others.now }
     ensures fits { result ≡ do_all_less_fit factor.now cells.old others.now }

@@ -9,7 +9,8 @@ use dd_fraction::Fraction;
 use std::alloc::{AllocError, Global};
 use std::marker::Model;
 
-/// A row: the sum of coefficient times column is at most the bound. There is one coefficient for each column.
+/// A row: the sum of the columns, each times its coefficient, is at most the bound. There is one coefficient for each
+/// column.
 #[derive(Debug, Drop)]
 pub struct Constraint {
     pub coefficients: Vec<Fraction>,
@@ -66,8 +67,8 @@ impl Program {
         Ok(Program { columns, rows })
     }
 
-    /// Adds the row "the sum of coefficient times column is at most `bound`". There must be one coefficient for each column,
-    /// and the bound must be at least 0.
+    /// Adds the row "the sum of the columns, each times its coefficient, is at most `bound`". There must be one coefficient
+    /// for each column, and the bound must be at least 0.
     ///
     /// # Errors
     /// `AllocError` if memory ran out. The program is then unchanged.

@@ -172,7 +172,7 @@ pub fn leaving(lines: &[Line], e: usize) -> Result<Option<usize>, SimplexFault>
     Ok(chosen)
 }
 
-/// Whether the first ratio is smaller, or the ratios are equal and the first variable has the smaller number.
+/// Whether `ratio` is less than `other`, or the two are equal and `variable` is less than `other_variable`.
 fn precedes(ratio: &Fraction, variable: usize, other: &Fraction, other_variable: usize) -> bool
     ensures { result ≡ does_precede ratio.now variable other.now other_variable }
 {

@@ -12,8 +12,8 @@ pub fn one_script()
     one_tree();
 }
 
-/// Does nothing. Its contract says that bytes are refused in at most one way: with one number, and for one kind of fault. The
-/// number is that of a command, or 0 if the fault comes before the first command.
+/// Does nothing. Its contract says that bytes are refused in at most one way: with one number, and for one reason. The number
+/// is that of a command, or 0 if a token stands before the first command.
 pub fn one_refusal()
     ensures { (bytes : List ℕ) (m n : ℕ) (k l : RefusalKind) → RefusedAs bytes m k → RefusedAs bytes n l → (m ≡ n) × (k ≡ l) }
 {

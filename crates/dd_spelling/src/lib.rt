@@ -1,8 +1,8 @@
-//! Laws about the bytes of scripts. Bytes spell a script if they are a text of the grammar, the text has no fault (such as an
-//! unknown name), and the script is what the text means. Bytes spell exactly one script, or else are refused in exactly one
-//! way: with a number and a kind of fault, such as an error of syntax. The number is that of a command, or 0 if a token stands
-//! before the first command. The laws hold for any number of bytes. The limit on a script's length is not part of the grammar.
-//! A run tests this limit before it reads commands.
+//! Laws about the bytes of scripts. Bytes spell a script if they follow the grammar, none of their commands has a fault (such
+//! as an unknown name), and the script is what the commands mean. Any bytes either spell exactly one script, or are refused in
+//! exactly one way: with a number and for a reason, such as a syntax error or an unknown name. The number is that of a
+//! command, or 0 if a token stands before the first command. The laws hold for any number of bytes. The limit on a script's
+//! length is not part of the grammar. diddy tests this limit before it reads commands.
 #![tactic(auto)]
 
 mod laws;

@@ -3,7 +3,8 @@ use Rattle.std.specs.Prelude.{ℕ, List, [], ◌∷◌, length, false, codes}
 use Rattle.dd_topology.specs.{Builtin.square, Sets.SymbolSets, Sets.all_symbols}
 use Rattle.dd_known.specs.declared.known.Known.{Known}
 
--- the defaults: the square topology with the node 0, the symbols 0 and 1, which weigh 0 and 1, and limits of radius 4, period 4 and 10,000 pivots
+-- the defaults: the square topology with the node 0, the symbols 0 and 1, which weigh 0 and 1, and search limits of radius 4, period 4 and 10,000
+-- pivots
 abbrev pub known_start : Known
 known_start =
     record {

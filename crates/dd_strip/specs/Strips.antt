@@ -1,5 +1,6 @@
--- Strips, which strips and weights a question about a rule may name, and which strips are small enough for a rule. A strip has periods along y and z,
--- and no end along x. A slice consists of the strip's cells with one value of x.
+-- Strips, which strips and weights a question about a rule may name, and which strips are small enough for a rule. Each position of Z^d has one or
+-- more nodes. A cell is a position together with one of its nodes. A strip has periods along y and z, and no end along x. A slice consists of the
+-- strip's cells with one value of x.
 use Rattle.std.specs.Prelude.{◌≡◌, ◌⊎◌, ℕ, ◌*◌, ◌<◌, ◌≤◌, List, length, slice_index}
 use Rattle.std.specs.List.{All}
 use Rattle.dd_values.specs.Bounds.{most_weight}
@@ -28,7 +29,7 @@ pub record IsSized (s : Strip) : Type 0 where
   pub z_most : s.z ≤ 64
   pub nodes_most : s.nodes ≤ 4
 
--- the strip is one for the rule: it is sized as above, it has the rule's number of nodes, and its period is 1 along each axis beyond the
+-- the strip is suitable for the rule: `IsSized` holds, the strip has the rule's number of nodes, and its period is 1 along each axis beyond the
 -- rule's dimension
 pub record IsFor (r : LocalRule) (s : Strip) : Type 0 where
   pub sized : IsSized s

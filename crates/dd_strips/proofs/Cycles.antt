@@ -33,10 +33,11 @@ opened : (b : Bool) (o : Option ℕ) → is_some (cond b o None) ≡ true → b 
 opened true o h = refl
 opened false o h = absurd (cc)
 
--- the periods of the configuration, and the symbol at a place of its list of symbols
+-- the periods of the configuration, for a walk of length n
 abbrev pub periods_for : Strip → ℕ → Periods
 periods_for s n = record { x = n; y = s.y; z = s.z; shear = 0 }
 
+-- the symbol at the place k of the configuration's list of symbols
 abbrev pub symbol_of : LocalRule → Strip → List ℕ → ℕ → ℕ
 symbol_of r s walk k =
     slice_index (digits r.symbols (cells s) (last_slice r s (slice_index walk (k / s.nodes % length walk)))) (k / s.nodes / length walk * s.nodes + k % s.nodes)
@@ -141,7 +142,7 @@ module _ (r : LocalRule) (s : Strip) (walk : List ℕ) (rule : IsRule r) (for : 
     one_further : (y : ℤ) (n : ℕ) → ((y +ℤ pos n) +ℤ pos 1) ≡ y +ℤ pos (suc n)
     one_further y n = omega (arith, ints)
 
-    -- the n slices after y are the last n slices of the walk's state at y + n, if a state has as many slices
+    -- the n slices after y are the last n slices of the walk's state at y + n, if a state has at least n slices
     slices_there : (y : ℤ) (n : ℕ) → n ≤ state_length r → slices_from r s (tile_look (tile_of r s walk)) (y +ℤ pos 1) n ≡ state_at r s walk (y +ℤ pos n) % slices r (positions s) ^ n
     slices_there y zero le = none_there (y +ℤ pos 1) ∙ sym (mod_of_none (state_at r s walk (y +ℤ pos 0)) (slices r (positions s)))
     slices_there y (suc n) le =

@@ -14,7 +14,7 @@ use Rattle.dd_strips.proofs.{Walks.IsStep, Walks.walk_weighs, Walks.walk_is_heav
 use Rattle.dd_strips.proofs.Tiles.{IsOnStrip, tile_repeats, tile_has, symbols_round, period_weighs}
 use Rattle.dd_strips.proofs.Cycles.{tile_of, on_strip, lives_on_strip, cycle_weighs}
 
--- the strip with these periods is one for the rule
+-- the strip with these periods is suitable for the rule (see `IsFor`)
 pub strip_fits : (r : LocalRule) (periods : List ℕ) → IsRule r → IsStrip r periods → IsFor r (strip_for r periods)
 strip_fits r periods rule is = record {
   sized = record { y_some = is.y_some; z_some = is.z_some; nodes_some = rule.nodes.0; y_most = is.y_most; z_most = is.z_most; nodes_most = rule.nodes.1 };

@@ -1,5 +1,6 @@
--- A closed walk, walked round and round. At each integer x it is at a state, and an edge leads from this state to the state at the next x. Each
--- state's last slice is the slice of the edge to it. So a state's slices are the last slices of this state and of the states just before it.
+-- A closed walk, walked round and round. At each integer x the walk is at a state, and an edge leads from this state to the state at the next x. Each
+-- state's last slice is the slice of the edge that leads to the state. So a state's slices are the last slices of this state and of the states just
+-- before it.
 use Rattle.std.proofs.Common.{◌≡◌, ℕ, zero, suc, ◌+◌, ◌*◌, ◌%◌, ◌^◌, ◌<◌, List, [], ◌∷◌, length, ℤ, pos, ◌+ℤ◌, ap, sym, ◌∙◌, subst, arith, inl, inr}
 use Rattle.std.proofs.{Math.Nat.mod-eq_of_lt, Math.Nat.pow-suc, Math.Nat.pow-zero, Math.Nat.mul-mod_left, lemmas.Bool.cases_lt}
 use Rattle.std.proofs.lemmas.Nat.{mod-mul-add}

@@ -138,10 +138,11 @@ module _ (r : LocalRule) (s : Strip) (t : Tile) (for : IsFor r s) (on : IsOnStri
 
   -- the weights of the positions of the fundamental box form a table: each slice is a column, and each pair of y and z is a row
   module _ (ws : List ℕ) where
-    -- the weight of the symbol at a place of the list, and of the symbols of a position
+    -- the weight of the symbol at the place i of the list
     abbrev at : ℕ → ℕ
     at i = slice_index ws (get_or t.symbols i 0)
 
+    -- the weight of the position in this row, in the slice with x = i
     abbrev here : ℕ → ℕ → ℕ
     here row i = total_below (λ a. at ((row * t.periods.x + i) * s.nodes + a)) s.nodes
 

@@ -1,4 +1,4 @@
--- What a certificate says about fillings of any number of slices, and about configurations.
+-- What a certificate says about fillings of any number of slices, and about configurations. A state of the transfer graph has `state_length` slices.
 use Rattle.std.specs.Prelude.{ℕ, ◌+◌, ◌*◌, ◌≤◌, ℤ, pos, ◌+ℤ◌, ◌-ℤ◌, unsigned_abs, List, [], ◌∷◌}
 use Rattle.std.specs.{Int.int_min, Int.int_max, List.fold}
 use Rattle.dd_pattern.specs.Reading.{Look}

@@ -1,5 +1,6 @@
 -- Fillings of the slices of a strip, configurations that repeat with the strip's periods along the axes after the first, and their least density. A
--- look gives each cell a symbol, or none.
+-- cell is a position together with one of its nodes. A slice consists of the strip's cells with one value of x. A look gives each cell a symbol, or
+-- none.
 use Rattle.std.specs.Prelude.{◌≡◌, ℕ, ◌*◌, ◌<◌, ◌≤◌, ◌&&◌, Bool, ℤ, pos, ◌+ℤ◌, int_le, int_lt, nat_lt, is_some, List}
 use Rattle.dd_lattice.specs.declared.position.Cell.{Cell}
 use Rattle.dd_pattern.specs.{Reading.Look, Periods.periods_volume, Tile.Tile, Tile.IsTile, Weight.total_weight}

@@ -1,4 +1,4 @@
-//! The piece at the front of some bytes: a blank, a comment, a token, or the bytes up to one that isn't allowed.
+//! The piece at the front of some bytes: a blank, a comment, a token, or the bytes up to a byte that isn't allowed.
 ghost use Rattle.std.specs.Prelude.{◌≡◌, ◌≤◌, ◌<◌, ◌+◌, length};
 ghost use Rattle.std.specs.List.{prefix_len};
 ghost use Rattle.dd_values.specs.Bounds.{most_script};
@@ -13,7 +13,7 @@ pub enum Piece {
     Gap(u32),
     /// A token of this kind, with this many bytes.
     Cut(TokenKind, u32),
-    /// The first byte that isn't allowed comes after this many others.
+    /// The first byte that isn't allowed comes after this many bytes.
     Fault(u32),
 }
 

@@ -18,8 +18,8 @@ use Rattle.dd_topology.specs.{keeping.Growth.AddsCells, lemmas.ListLaws.in_flat_
 use Rattle.dd_topology.specs.lemmas.OrderLaws.{kept-insert_key, has-insert_key, from-insert_key, is-in_order}
 use Rattle.dd_topology.proofs.BallLaws.{from_neighbours, into_neighbours, in_ball, ball_holds}
 
--- The cells found are those of the ball of radius r around c. They are in range, and the frontier has only such cells. If a found cell isn't in the
--- frontier, all its neighbours have been found too.
+-- The cells found are those of the ball of radius r around c. They are in range. The frontier has only cells that have been found. If a found cell
+-- isn't in the frontier, all its neighbours have been found too.
 pub record IsGrown (es : List Edge) (c : Cell) (r : ℕ) (found frontier : List Cell) : Type 0 where
   pub members : (d : Cell) → Contains found d ↔ IsInBall es c r d
   pub in_range : All (λ d. IsInRange d.position) found

@@ -26,7 +26,7 @@ module _ {X : Type 0} (same : X → X → Bool) where
       (All-from_contains (λ y. same x y ≡ false) xs (λ y there. false_from_ne_true (same x y) (λ e. true≢false (sym (passes_any (same x) xs y there e) ∙ none))))
       (pairs_apart xs (neither_right (list_any (same x) xs) (has_repeat same xs) h))
 
-  -- in a list in which no two elements are the same, the element at index i is not the same as one before it
+  -- in a list in which no two elements are the same, the element at index i is not the same as any element before it
   pub not_among : (xs : List X) → AllPairs (λ x y. same x y ≡ false) xs → (i : ℕ) (y : X) → i < length xs → Contains (take i xs) y → same y (get_or xs i y) ≡ false
   not_among xs pairs i y below (k, within, is) =
       let before : k < i = omega (arith, within, length-take i xs) in

@@ -33,13 +33,15 @@ CellsLeaveRange S = LeavesRangeAt (λ (c : Cell). c.position) S
 abbrev pub IsCellFaultOf : CellSet → LatticeFault → Type 0
 IsCellFaultOf S = IsFaultAt (λ (c : Cell). c.position) S
 
--- three tests: `same_place` compares two positions, `leads` decides `Leads`, and `is_adjacent` decides `IsAdjacent`
+-- whether two positions are the same
 abbrev pub same_place : Place → Place → Bool
 same_place p q = int_eq p.x q.x && int_eq p.y q.y && int_eq p.z q.z
 
+-- whether the edge leads from a to b: this test decides `Leads`
 abbrev pub leads : Edge → Cell → Cell → Bool
 leads e a b = e.from == a.node && e.to == b.node && same_place (moved a.position e.offset) b.position
 
+-- whether b is adjacent to a: this test decides `IsAdjacent`
 abbrev pub is_adjacent : List Edge → Cell → Cell → Bool
 is_adjacent es a b = list_any (λ e. leads e a b || leads e b a) es
 

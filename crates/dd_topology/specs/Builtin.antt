@@ -23,7 +23,6 @@ forth label offset = record { label = label; from = 0; offset = offset; to = 1 }
 abbrev pub back : ℕ → Place → Edge
 back label offset = record { label = label; from = 1; offset = offset; to = 0 }
 
--- 1 and -1
 abbrev pub one : ℤ
 one = pos 1
 

@@ -38,8 +38,8 @@ impl Topology {
     /// - square: `up` (0,1), `dn` (0,-1), `rt` (1,0), `lt` (-1,0)
     /// - king: those of square, then `ne` (1,1), `nw` (-1,1), `se` (1,-1), `sw` (-1,-1)
     /// - triangle: those of square, then `ne` (1,1), `sw` (-1,-1)
-    /// - hex: `a` (0,0), `b` (-1,0), `c` (0,-1), each from node 0 to node 1, and from node 1 to node 0 by the negated
-    /// offset
+    /// - hex: `a` (0,0), `b` (-1,0), `c` (0,-1), each from node 0 to node 1; each label's edge from node 1 to node 0 has the
+    /// negated offset
     /// - cube: `rt` (1,0,0), `lt` (-1,0,0), `up` (0,1,0), `dn` (0,-1,0), `fw` (0,0,1), `bk` (0,0,-1)
     pub fn builtin(alloc: Global, kind: Kind) -> Result<Topology, AllocError>
         ensures { IfOk result (λ topology. topology ≡ grid_of kind) }
@@ -177,8 +177,8 @@ fn back(label: u32, x: i32, y: i32, z: i32) -> Edge
     }
 }
 
-/// The topology with these labels and edges. No label may occur twice, and no two edges may have the same label and first node.
-/// There must be fewer than 2^32 - 1 labels, and the rest must be as `from_edges` needs it.
+/// The topology with these labels and edges. No label may occur twice, and no two edges may have the same label and first
+/// node. There must be fewer than 2^32 - 1 labels. The other conditions are those of `from_edges`.
 fn topology_of(
     alloc: Global,
     dim: u32,

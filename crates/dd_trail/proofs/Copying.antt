@@ -22,7 +22,7 @@ use Rattle.dd_trail.proofs.Denied.{same_code}
 -- ---- two literals of a clause change places
 
 module _ (numbers : List ℕ) (old new : List Code) (i j : ℕ) (many : length new ≡ length old) (i_in : i < length old) (j_in : j < length old) (same : number_at numbers i ≡ number_at numbers j) (swapped : SwappedAt old new i j) where
-  -- where the code at a place came from, which is also where it went
+  -- the code that is now at a place came from the place q, and the code that was there went to q
   from : (p : ℕ) → p < length old → (q : ℕ) × (q < length old) × (number_at numbers q ≡ number_at numbers p) × (code_at new p ≡ code_at old q) × (code_at old p ≡ code_at new q)
   from p lt = elim (cases_eq p i) [
     | inl at_i ↦ (j, j_in, sym same ∙ ap (number_at numbers) (sym at_i), ap (code_at new) at_i ∙ ap (λ (c : Code). c.index) (swapped.0 end_mark), ap (code_at old) at_i ∙ ap (λ (c : Code). c.index) (sym (swapped.1 end_mark)))
@@ -80,7 +80,7 @@ module _ (known : List (Option (List Literal))) (copy : Copy) (falses : List Lit
         ]
       ])
 
-  -- if one of them is false, and the other one is l, whose variable has no value, the clause forces l
+  -- if one literal that the clause watches is false, and the other one is l, whose variable has no value, the clause forces l
   pub stop_forces : (place other : ℕ) (l : Literal) → ((place ≡ first) × (other ≡ first + 1)) ⊎ ((place ≡ first + 1) × (other ≡ first)) → code l ≡ code_at copy.codes place → has_variable l.variable falses ≡ false → 1 ≤ l.variable
       → ((x : Literal) → code_at copy.codes other ≡ code x → is_among falses x ≡ true) → hint_finding known (is_among falses) r ≡ Forced l
   stop_forces place other l which is free least b =
@@ -126,7 +126,7 @@ module _ (known : List (Option (List Literal))) (copy : Copy) (falses : List Lit
 pub denied_false : (denied : List Bool) (falses : List Literal) (index : ℕ) → ((l : Literal) → get_or denied (code l) false ≡ is_among falses l) → true ≡ get_or denied index false → (l : Literal) → index ≡ code l → is_among falses l ≡ true
 denied_false denied falses index told is l e = sym (told l) ∙ ap (λ i. get_or denied i false) (sym e) ∙ sym is
 
--- a look that found that a clause forces the literal with a code, or found nothing, is right if the clause does force it
+-- A look found nothing, or that a clause forces the literal with a given code. This finding is right if the clause forces that literal.
 pub forced_says : (known : List (Option (List Literal))) (n : ℕ) (trail : List Entry) (r index : ℕ) (found : Scan) → SaysForced n trail r index found
     → ((l : Literal) → code l ≡ index → has_variable l.variable (falses trail) ≡ false → 1 ≤ l.variable → hint_finding known (is_among (falses trail)) r ≡ Forced l) → Says known (falses trail) ⊤ found
 forced_says known n trail r index (Conflict s) h f = absurd h
@@ -239,7 +239,7 @@ module _ (known : List (Option (List Literal))) (ns : List ℕ) (cs : List Code)
       some_same : (x y : List Literal) → Some x ≡ Some y → x ≡ y
       some_same x y e = cc
 
--- the same after an attempt that may fail, and then leaves the copy as it was
+-- `more_copied` for an attempt to copy the clause, which may fail; a failed attempt leaves the copy as it was
 pub copied_after : {A E : Type 0} (r : Result A E) (known : List (Option (List Literal))) (ns : List ℕ) (cs : List Code) (number : ℕ) (c : List Literal) (places : List Code) (new_ns : List ℕ) (new_cs : List Code) → clause_of known number ≡ Some c → All HasCode c → length ns ≡ length cs → ((p : ℕ) → p < length ns → number_at ns p < number) → places ≡ places_of c
     → OnOk r ((new_cs ≡ cs ++ places) × (new_ns ≡ ns ++ replicate (length places) number)) → OnErr r ((new_cs ≡ cs) × (new_ns ≡ ns)) → AreCopied known (record { numbers = ns; codes = cs }) → AreCopied known (record { numbers = new_ns; codes = new_cs })
 copied_after (Ok u) known ns cs number c places new_ns new_cs is coded many less places_are done failed a = rw (done.0, done.1, places_are) (more_copied known ns cs number c is coded many less a)

@@ -1,5 +1,5 @@
--- The copy without the places of the clauses that are not alive. They are removed in place: what stays at a place moves down by the number of places
--- removed before it.
+-- The copy without the places of the clauses that are not alive. They are removed in place: what is kept moves down by the number of places removed
+-- before it.
 use Rattle.std.proofs.Common.{◌≡◌, ◌≢◌, ℕ, ◌+◌, ◌<◌, ◌≤◌, Bool, true, false, List, Option, refl, ap, sym, ◌∙◌, length, get_or, set, take, inl, inr, arith, get_or-set_same, get_or-set_other}
 use Rattle.std.proofs.Math.ListN.{get_or-eq_default}
 use Rattle.std.proofs.lemmas.Bool.{cases_eq, cases_lt, false≢true}
@@ -17,8 +17,8 @@ pub record At (numbers : List ℕ) (codes : List Code) (most number : ℕ) (entr
   pub numbered : number_at numbers place ≡ number
   pub coded : get_or codes place end_mark ≡ entry
 
--- The places below `place` were gone through, and the first `kept` hold what stays, with numbers that never fall. The places from `place` on are
--- unchanged.
+-- The places below `place` were gone through. The first `kept` places hold what is kept of them, with numbers that never fall. The places from
+-- `place` on are unchanged.
 pub record Keeps (alive : List Bool) (ns : List ℕ) (cs : List Code) (kept place : ℕ) (numbers : List ℕ) (codes : List Code) : Type 0 where
   pub as_many : length numbers ≡ length ns
   pub as_many_codes : length codes ≡ length cs
@@ -44,7 +44,7 @@ module _ (alive : List Bool) (ns : List ℕ) (cs : List Code) (as_many : length 
     rise = λ j k h l. absurd (omega arith);
   }
 
-  -- a place is passed, and stays out
+  -- a place is passed, and what it holds is left out
   pub keeps_less : (kept place : ℕ) (numbers : List ℕ) (codes : List Code) → Keeps alive ns cs kept place numbers codes → place < length ns → is_kept alive (number_at ns place) ≡ false → Keeps alive ns cs kept (place + 1) numbers codes
   keeps_less kept place numbers codes k lt out = record {
     as_many = k.as_many;

@@ -36,7 +36,7 @@ pub record IsOf (clause : List Literal) (index : ℕ) : Type 0 where
   pub member : is_among clause literal ≡ true
   pub is_code : index ≡ code literal
 
--- the places with the number r hold the literals of the clause, and else only end marks
+-- the places with the number r hold the literals of the clause, and otherwise only end marks
 pub record HoldsClause (copy : Copy) (r : ℕ) (clause : List Literal) : Type 0 where
   pub each : (l : Literal) → is_among clause l ≡ true → IsCopied copy r l
   pub only : (p : ℕ) → p < length copy.codes → number_at copy.numbers p ≡ r → code_at copy.codes p ≢ 0 → IsOf clause (code_at copy.codes p)

@@ -73,15 +73,16 @@ pub(crate) const END: Code = Code { index: 0 };
 /// A clause at which the passing of watchers stops. All of its literals are false, except perhaps the first two.
 #[derive(Clone, Copy)]
 pub(crate) struct Stop {
-    /// The place of the clause's watcher in its list.
+    /// The place of the clause's watcher in the list of watchers.
     pub at: usize,
     /// The place of the clause's first literal.
     pub first: usize,
-    /// The place of its end mark.
+    /// The place of the clause's end mark.
     pub end: usize,
 }
 
-/// The codes of the literals, and an end mark after them. `None` if a literal has no code, which never happens.
+/// The codes of the literals, and an end mark after them. `None` if the `Code` of a literal is the end mark, which never
+/// happens.
 fn encoded(alloc: Global, literals: &[Literal]) -> Result<Option<Vec<Code>>, AllocError>
     ensures { IfOk result (λ found. IfSome found (λ codes. (codes.items ≡ map encode literals.now ++ end_mark ∷ []) × All HasCode literals.now)) }
 {
@@ -97,7 +98,7 @@ fn encoded(alloc: Global, literals: &[Literal]) -> Result<Option<Vec<Code>>, All
     Ok(Some(codes))
 }
 
-/// Adds places at the end of the copy: those of a clause with the given number. If memory runs out, nothing changes.
+/// Adds the places of a clause, which has the given number, at the end of the copy. If memory runs out, nothing changes.
 fn append(
     alloc: Global,
     numbers: &mut Vec<u32>,
@@ -130,8 +131,8 @@ fn is_next(numbers: &[u32], number: u32) -> bool
     }
 }
 
-/// Copies the clause with this number, if there is one. Its number must be greater than all in the copy. If it isn't, or
-/// doesn't fit in 32 bits, or a literal has no code, or memory runs out, nothing changes.
+/// Copies the clause with this number, if there is one. Nothing changes if the number is not greater than all numbers in the
+/// copy, if it doesn't fit in 32 bits, if the `Code` of a literal is the end mark, or if memory runs out.
 pub(crate) fn copy_clause(
     alloc: Global,
     numbers: &mut Vec<u32>,
@@ -203,7 +204,8 @@ fn number_between(numbers: &[u32], first: usize, end: usize) -> Option<u32>
     None
 }
 
-/// What the clause with this number says if its literals are all false, except the one with this code, which is not false.
+/// What a look at the clause with this number finds, if the literal with this code is not false and all other literals of the
+/// clause are false.
 fn forced(trail: &Trail, number: u64, code: Code) -> Scan
     ensures { SaysForced trail.now.variables trail.now.entries number code.index result }
 {

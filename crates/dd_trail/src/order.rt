@@ -1,10 +1,11 @@
 //! The order in which variables are decided, the most active first. A variable's activity is a number. The search raises it
-//! (see `bump`), above all when the variable takes part in a conflict, that is, when the conflict or a clause resolved with it
-//! contains the variable. Later conflicts count for more (Moskewicz, Madigan, Zhao, Zhang and Malik 2001; Eén and Sörensson
-//! 2003). A variable that is decided gets the value that it had last (Pipatsrisawat and Darwiche 2007). The variables stand in
-//! a binary heap. A variable that is taken from the heap is decided only if the trail says that it has no value. So no contract
-//! depends on the order: a bad one only costs time. No invariant says that the places kept here are within their lists. So the
-//! code tests these places. The tests never fail.
+//! (see `bump`), above all when the variable takes part in a conflict and is not fixed (see `Trail::is_fixed`). A variable
+//! takes part in a conflict when the conflict or a clause resolved with it contains the variable. Later conflicts count for
+//! more (Moskewicz, Madigan, Zhao, Zhang and Malik 2001; Eén and Sörensson 2003). A variable that is decided gets the value
+//! that it had last (Pipatsrisawat and Darwiche 2007). The variables stand in a binary heap. A variable that is taken from the
+//! heap is decided only if the trail says that it has no value. So no contract depends on the order: a bad one only costs
+//! time. No invariant says that the places kept here are within their lists. So the code tests these places. The tests never
+//! fail.
 ghost use Rattle.std.specs.Prelude.{◌≡◌, ◌<◌, ◌^◌, MatchOption, ⊤};
 ghost use Rattle.dd_trail.specs.Trails.{IsFree, IsFull};
 
@@ -24,7 +25,7 @@ const LOST_BITS: u32 = 32;
 /// In the broad style, the increment grows after each conflict: it is divided by this number, and the quotient is added to it.
 const BROAD_PART: u64 = 64;
 
-/// The corresponding number for the focused style.
+/// The same for the focused style: the increment is divided by this number, and the quotient is added to it.
 const FOCUSED_PART: u64 = 20;
 
 /// How much weight the latest conflicts have in the order.
@@ -34,7 +35,8 @@ pub enum Style {
     /// clause become more active a second time. If a clause forced the value of such a variable, the variables of that clause
     /// that are not fixed (see `Trail::is_fixed`) become more active too (Liang, Ganesh, Poupart and Czarnecki 2016). This
     /// style is better where a contradiction lies deep among many variables, as in pigeonhole problems and in most questions
-    /// about the symbols of the cells in a box.
+    /// about the symbols of the cells in a box. (Each position of Z^d has one or more nodes. A cell is a position together
+    /// with one of its nodes.)
     Broad,
     /// The latest conflicts count most, as each adds clearly more than the one before. In a conflict, a variable becomes more
     /// active only once, however many of the resolved clauses contain it, as in MiniSat (Eén and Sörensson 2003). This style is
@@ -44,11 +46,14 @@ pub enum Style {
     Focused,
 }
 
-/// How active a variable is, its place in `heap`, and the value that it had last.
+/// What the order records about a variable.
 #[derive(Clone, Copy)]
 struct Rank {
+    /// How active the variable is.
     activity: u64,
+    /// The variable's place in `heap`.
     place: usize,
+    /// The value that the variable had last, noted when the variable is put back. At the start it is false.
     value: bool,
 }
 
@@ -203,9 +208,9 @@ impl Order {
         Some(first)
     }
 
-    /// Takes variables out of the heap, until one has no value. Returns the literal that this variable's last value makes true.
-    /// `None` if each variable has a value. If the heap runs out first, the literal is the negation of the first variable
-    /// without a value. This never happens.
+    /// Takes variables out of the heap, until one has no value. Returns the literal that this variable's last value makes
+    /// true. `None` if each variable has a value. If the heap ran out first, which never happens, the literal would be the
+    /// negation of the first variable without a value.
     pub fn choose(&mut self, trail: &Trail) -> Option<Literal>
         requires { trail.now.variables < 2 ^ 32 }
         ensures { MatchOption result (IsFull trail.now.variables trail.now.entries) (λ l. IsFree trail.now.variables trail.now.entries l.variable) }

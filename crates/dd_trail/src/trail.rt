@@ -3,8 +3,8 @@
 //!
 //! `reason`, `level`, `is_fixed` and `is_latest` are about a variable's entry on the trail (see `Entry`). For a variable
 //! without a value, what they return means nothing. No contract depends on what they return. No invariant says that each
-//! variable has a spot (see `Spot`), or that its place is on the trail. So the code tests both. For variables that have a
-//! value, the tests never fail.
+//! variable has a spot (see `Spot`), or that the spot's place is on the trail. So the code tests both. For variables that have
+//! a value, the tests never fail.
 ghost use Rattle.std.specs.Prelude.{◌≡◌, ℕ, ◌+◌, ◌<◌, ◌≤◌, ◌^◌, ◌++◌, ◌∷◌, [], true, false, length, take, slice_set, slice_index_or, ◌-◌, IfOk, OnOk, OnErr, MatchOption, IsTrue, ◌↔◌};
 ghost use Rattle.dd_clause.specs.declared.clause.Literal.{Literal};
 ghost use Rattle.dd_clause.specs.Clauses.{IsLiteralInRange};
@@ -27,11 +27,12 @@ pub struct Entry {
     pub reason: Option<u64>,
 }
 
-/// The place of a variable's entry on the trail, and its decision level: the number of decisions on the trail up to and
-/// including this entry. Places are counted from 0.
+/// Where a variable's entry stands on the trail.
 #[derive(Clone, Copy)]
 struct Spot {
+    /// The place of the entry. Places are counted from 0.
     place: usize,
+    /// The decision level of the entry: the number of decisions on the trail up to and including the entry.
     level: usize,
 }
 

@@ -3,14 +3,14 @@
 //! watch it are looked at. When the search goes back, no watch has to be undone. No contract depends on which literals a clause
 //! watches: a clause that is missed only costs time. What matters is that the copy of the clauses (see `copies`) has all their
 //! literals. So a clause is falsified if all of its literals in the copy are false. If all but one of them are false, the
-//! clause forces this one, or this one is true. No invariant says that the places that watchers name are within the copy, or
-//! are those of one clause. So the code tests both. The tests never fail.
+//! clause forces this one, or this one is true.
 //!
 //! Each literal has a list of watchers. A watcher names a clause that watches the literal, and another literal of this clause.
 //! An entry of the trail makes the negation of its literal false. To read the entry is to pass the watchers of this negation,
 //! one after the other. To pass a watcher is to look for a literal that its clause can watch instead of the false one. This is
 //! not needed if the watcher's other literal is true, or if the other literal that the clause watches is true. A passed watcher
-//! stays in the list, or moves to the list of the literal that its clause now watches.
+//! stays in the list, or moves to the list of the literal that its clause now watches. No invariant says that the places that
+//! watchers name are within the copy, or are those of one clause. So the code tests both. The tests never fail.
 ghost use Rattle.std.specs.Prelude.{◌≡◌, ◌<◌, ◌≤◌, ◌^◌, List, Option, length, IfOk, IfSome, MatchOption, ⊤};
 ghost use Rattle.dd_clause.specs.declared.clause.Literal.{Literal};
 ghost use Rattle.dd_trail.specs.Trails.{falses, IsFull};
@@ -91,8 +91,9 @@ fn find_not_false(denied: &[bool], literals: &[Code], from: usize) -> Option<usi
     None
 }
 
-/// Looks in the clause for a literal to watch instead of the one that became false, unless the other literal that it watches is
-/// true. `clause` is the place of the clause's first literal.
+/// Looks in the clause for a literal to watch instead of the one that became false, unless the other literal that it watches
+/// is true. `clause` is the place of the clause's first literal. If the clause ran past the end of the copy, which never
+/// happens, the result would be `Stays`.
 fn rewatch(
     denied: &[bool],
     numbers: &[u32],
@@ -208,7 +209,8 @@ impl Watches {
     }
 
     /// Adds the clause with this number, if the database has one. It watches its first two literals, if it has at least two.
-    /// Clauses have to be added in the order of their numbers: one whose number is not greater than all before it is not added.
+    /// Clauses have to be added in the order of their numbers: a clause is not added if its number is not greater than all
+    /// numbers in the copy.
     pub fn add(&mut self, alloc: Global, database: &Database, number: u64) -> Result<(), AllocError>
         ensures copied { AreCopied database.now self.old → AreCopied database.now self.new }
     {
@@ -327,7 +329,7 @@ impl Watches {
         Ok(found)
     }
 
-    /// Reads the entries of the trail that have not been read yet. Makes each literal true that a clause at a stop forces, and
+    /// Reads the entries of the trail that have not been read yet. Makes true each literal that a clause at a stop forces, and
     /// reads the literal's entry too. Stops at a falsified clause, and returns its number. Returns `None` if it finds no
     /// falsified clause.
     fn read(&mut self, database: &Database, trail: &mut Trail) -> Result<Option<u64>, AllocError>
@@ -375,11 +377,11 @@ impl Watches {
         Ok(None)
     }
 
-    /// Makes each literal true that a clause forces, until it finds a falsified clause, or finds no clause that forces a
+    /// Makes true each literal that a clause forces, until it finds a falsified clause, or finds no clause that forces a
     /// literal. Returns the number of the falsified clause, or `None`. First reads on along the trail. Then looks at each new
-    /// clause, as a clause with fewer than two literals watches none, and after each look reads on again. Last, if each
-    /// variable has a value, looks at all clauses once more. Only in this case does `None` promise that no clause is falsified
-    /// or forces a literal.
+    /// clause, and reads on again after each look. (It looks at new clauses because a clause with fewer than two literals
+    /// watches none.) Last, if each variable has a value, looks at all clauses once more. Only in this case does `None`
+    /// promise that no clause is falsified or forces a literal.
     pub fn propagate(
         &mut self,
         database: &Database,

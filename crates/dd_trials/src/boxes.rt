@@ -76,7 +76,7 @@ fn satisfying(alloc: Global, cnf: &Cnf, cells: usize) -> Result<[u32; 8], Fail> 
     Ok(found)
 }
 
-/// Whether the filling is admissible: the rule is true at each of these cells for which the filling has all that the rule reads.
+/// Whether the filling is admissible: the rule is true at each of these cells at which it reads only cells of the filling.
 fn is_admissible(rule: &Rule, filling: &Filling, cells: &[Cell]) -> Result<bool, Fail>
     requires { All (λ s. s < rule.now.symbols) filling.now.symbols }
 {

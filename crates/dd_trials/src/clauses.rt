@@ -23,7 +23,7 @@ fn numbers(alloc: Global, clause: &Clause) -> Result<Vec<i64>, AllocError> {
     Ok(numbers)
 }
 
-/// The clauses on the box of radius 0 of the question whether no configuration obeys the script's first rule.
+/// The clauses, on the box of radius 0, of the question whether no configuration obeys the script's first rule.
 fn emptiness_of(alloc: Global, script: &Script) -> Result<Cnf, Fail> {
     let rule = script.rules().first().ok_or("a rule")?;
     clauses_of(alloc, rule, &Goal::Always, 0)
@@ -54,7 +54,7 @@ fn no_cell_has_two_symbols(rt: HostRuntime) -> Result<(), Fail> {
 
 /// A bound on the number of clauses of a question on the box of this radius, or on the torus with this period along each axis,
 /// if that has more positions. The premise is the script's first rule, and the goal has `goal` clauses. A bound over the limit
-/// `MOST_CLAUSES` is cut off to one more than the limit. Fails if the radius is over 8.
+/// `MOST_CLAUSES` is replaced by the limit plus 1. Fails if the radius is over 8.
 fn size_of(script: &Script, goal: u32, radius: u32, period: u32) -> Result<u32, Fail> {
     if radius > 8 {
         return Err("a radius".into());
@@ -69,9 +69,10 @@ fn size(alloc: Global, script: &str, goal: u32, radius: u32, period: u32) -> Res
     size_of(&script, goal, radius, period)
 }
 
-/// A script with a rule, the number of clauses of the goal, a radius, a period, and a bound on the number of clauses of the
-/// question on the box or the torus, whichever has more positions. Along each axis it has `2 * radius + 1` or `period`
-/// positions, whichever is more. The bound counts the goal's clauses and, for each cell, even at the edge:
+/// Each row has a script with a rule, the number of clauses of the goal, a radius, a period, and a bound. The bound is on the
+/// number of clauses of the question on the box or the torus, whichever has more positions. Along each axis, the box has
+/// `2 * radius + 1` positions, and the torus has `period`. The bound counts the goal's clauses and, for each cell, even at the
+/// edge:
 /// - one clause that says that it has a symbol;
 /// - for each two symbols, one that says that it doesn't have both;
 /// - for each symbol that its node doesn't allow, one that says that it doesn't have this symbol;

@@ -44,7 +44,8 @@ const MINIMAL: &[(&str, u32, &[Pattern])] = &[
         0,
         &[&[Some(0), Some(1)], &[Some(1), Some(0)]],
     ),
-    // In the filling 0 0 1 the first cell is left out, since 1 0 1 breaks the rule too. In 0 1 1 the first cell is kept.
+    // A filling that breaks the rule is made into a pattern: cell after cell is left out if the rest is still forbidden. In 0
+    // 0 1 the first cell is left out, since 1 0 1 breaks the rule too. In 0 1 1 it is kept, since 1 1 1 obeys the rule.
     (
         "%dim 1 %rule x o=o.rt & o.rt=o.rt.rt",
         0,

@@ -42,9 +42,9 @@ fn inputs_of(alloc: Global, cells: &[Cell], symbols: u32) -> Result<Inputs, Allo
     Ok(inputs)
 }
 
-/// Compiles the rule to a template: the rule's gates at a node, to be placed at that node of one position after another. Then
-/// places the template at the node of the origin, in a new circuit with this many input variables. Returns the circuit and the
-/// signal of the rule. Fails if a cell that the rule reads lacks an input of this circuit for some symbol.
+/// Compiles the rule to a template: the rule's gates at a node, made once, which can be placed at this node of any position.
+/// Then places the template at the node of the origin, in a new circuit with this many input variables. Returns the circuit
+/// and the signal of the rule. Fails if a cell that the rule reads lacks an input of this circuit for some symbol.
 fn placed(
     alloc: Global,
     rule: &Rule,

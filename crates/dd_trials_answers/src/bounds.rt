@@ -1,10 +1,13 @@
-// Bounds by discharging: known values, and whether a check accepts the answers of runs and other answers. A query names a rule,
-// a radius, a margin and vectors. At first each position holds its weight, the sum of the weights of its symbols. Then it gives
-// an amount along each vector. The amount depends on the vector and on the symbols of the box of this radius around the giver.
-// The region consists of the boxes of this radius around the origin and around the positions that give to it, all grown by the
-// margin. The bound is the greatest number c for which some amounts leave at least c at the origin, in each admissible filling
-// of the region; c must not exceed the number of nodes times the greatest weight. A filling is admissible if the rule is true
-// at each cell of the region for which the region holds all that the rule reads there.
+// Bounds by discharging: known values, and whether a check accepts the answers of runs and other answers. A query names a
+// rule, a radius, a margin and vectors. At first each position holds its weight, the sum of the weights of its symbols. Then
+// it gives an amount, which is at least 0, along each vector. The amount depends on the vector and on the symbols of the box
+// of this radius around the giver. The region consists of the boxes of this radius around the origin and around the positions
+// that give to it, all grown by the margin. The rule applies at a cell of the region if it reads only cells of the region
+// there. A filling gives each cell of the region a symbol that the cell's node allows. It is admissible if the rule is true at
+// each cell at which it applies. The bound is the greatest number c for which some choice of the amounts leaves at least c at
+// the origin in each admissible filling. Here c must not exceed the number of nodes times the greatest weight. The duals of an
+// answer show that no amounts give a greater bound. They are factors for the rows of a linear program. The line `denominator`
+// has the common denominator of the amounts and duals.
 use crate::outputs::{assert_answers, assert_checks, assert_lines};
 use std::test::Fail;
 
@@ -14,7 +17,7 @@ const DISCHARGES: [(&str, &str); 16] = [
         "%rule dom Ep[o1] p=1 %discharge dom 0 0 [1 0] [-1 0] [0 1] [0 -1]",
         "query 1 BOUND 1/5\n",
     ),
-    // The bound is 1 divided by the number of cells that a 1 dominates.
+    // In this row and the next two, as in the first, the bound is 1 divided by the number of cells that a 1 dominates.
     (
         "%rule tot Ep[o1] (p=1 & !(p@o)) %discharge tot 0 0 [1 0] [-1 0] [0 1] [0 -1]",
         "query 1 BOUND 1/4\n",
@@ -149,7 +152,7 @@ const CHECKED: [(&str, bool); 14] = [
         "query 1 DENSITY 1/2\ncycle 2 0 1\npotentials 0 1\nquery 2 BOUND 1/2\ndenominator 2\namounts 0 1\nduals 0 0 0\n",
         false,
     ),
-    // A denominator that is no multiple of that of the bound.
+    // A denominator that isn't a multiple of the bound's.
     (
         "query 1 DENSITY 1/2\ncycle 2 0 1\npotentials 0 1\nquery 2 BOUND 1/2\ndenominator 3\namounts 0 1\nduals 0 1 1\n",
         false,

@@ -1,8 +1,8 @@
 // Least densities of strips: known values, and whether a check accepts the answers of runs and other answers. A strip is the
 // lattice rolled up along every axis but the first, with the periods that the query gives. A slice gives a symbol to each cell
-// of the strip that has a given x. The states of the transfer graph are sequences of slices. An edge drops the first slice and
-// appends one. The evidence for a density is a cycle, and a potential for each state of the graph. The evidence for EMPTY is a
-// rank for each state. `dd_density` says what potentials and ranks are.
+// of the strip that has a given x. The states of the transfer graph are sequences of slices. An edge drops the first slice of
+// a state and appends another slice at the end. The evidence for a density is a cycle, and a potential for each state of the
+// graph. The evidence for EMPTY is a rank for each state. `dd_density` says what potentials and ranks are.
 use crate::outputs::{assert_checks, assert_lines};
 use std::test::Fail;
 
@@ -22,8 +22,8 @@ const DENSITIES: [(&str, &str); 15] = [
         "%rule hard o=1 -> (o.rt=0 & o.up=0) %density hard [8]",
         "query 1 DENSITY 0/1\n",
     ),
-    // A 0 weighs 1. Of the seven cells of a slice, which is a ring, at most three are 1. Every slice has three 1s if they move
-    // one step round the ring from slice to slice.
+    // A 0 weighs 1. Of the seven cells of a slice, which is a ring, at most three are 1. In some configuration every slice has
+    // three 1s, which move one step round the ring from each slice to the next.
     (
         "%weights 1 0 %rule hard o=1 -> (o.rt=0 & o.up=0) %density hard [7]",
         "query 1 DENSITY 4/7\n",
@@ -38,8 +38,8 @@ const DENSITIES: [(&str, &str); 15] = [
         "%dim 3 %rule cover o=1 | o.rt=1 %density cover [1 2]",
         "query 1 DENSITY 1/2\n",
     ),
-    // Perfect codes of the king's lattice and of the hexagonal lattice. The latter has two cells at each position, and a quarter
-    // of all its cells are in the code.
+    // Perfect codes of the king's lattice and of the hexagonal lattice. The hexagonal lattice has two cells at each position, and
+    // a quarter of all its cells are in the code.
     (
         "%topology king %rule dom Ep[o1] p=1 %density dom [3]",
         "query 1 DENSITY 1/9\n",
@@ -68,8 +68,8 @@ const DENSITIES: [(&str, &str); 15] = [
         "%dim 1 %nodes a b %topology (r a [1] a) %only b 1 %rule full o@o %density full []",
         "query 1 DENSITY 1/1\n",
     ),
-    // A rule that no configuration obeys. Then strips of circumference three and four. Only the second of them can be coloured
-    // with two colours.
+    // A rule that no configuration obeys. Then strips of circumference three and four. Only the strip of circumference four can
+    // be coloured with two colours.
     (
         "%dim 1 %rule stuck o.rt=1 & !(o=1 & o.rt=1) %density stuck []",
         "query 1 EMPTY\n",

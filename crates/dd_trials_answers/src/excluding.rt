@@ -27,8 +27,8 @@ const SCRIPT: &[u8] = b"%dim 1
 %contains sparse hard
 ";
 
-// The index of an answer, from 0 on; the number of a query, from 1 on; and whether the answer, if it is given to this query,
-// excludes the query's goal. No query has the number 0 or 4.
+// Each row has the index of an answer, from 0 on, and the number of a query, from 1 on. The third entry says whether this
+// answer, given to this query, excludes the query's goal. No query has the number 0 or 4.
 const ROWS: &[(usize, u32, bool)] = &[
     (0, 1, true),
     (0, 2, false),
@@ -42,7 +42,7 @@ const ROWS: &[(usize, u32, bool)] = &[
     (2, 3, false),
 ];
 
-// The positions of the line that are tried.
+// The points of the line at which each row is tested.
 const PLACES: &[i32] = &[-1_000_000, 0, 1];
 
 fn script_of(alloc: Global, bytes: &[u8]) -> Result<Script, Fail> {

@@ -41,7 +41,7 @@ const LISTS: [(&str, &str); 10] = [
         "%topology hex %rule free Ap[o1] (p~o -> !(p=1 & o=1)) %rule q o=0 %forbidden q",
         "query 1 LIST 2\npattern 0 1\npattern 1 1\n",
     ),
-    // Each node has its own allowed symbols. A cell that is read has those of its own node.
+    // Each node has its own allowed symbols. A cell that is read may have only the symbols that its own node allows.
     (
         "%dim 1 %nodes a b %topology (x a [0] b) (x b [0] a) %only b 1 %rule p o=0 %forbidden p",
         "query 1 LIST 2\npattern 0 1\npattern 1 1\n",

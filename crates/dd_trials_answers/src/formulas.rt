@@ -1,7 +1,8 @@
 // What formulas mean. The scripts of the first tables ask whether a formula is true at every cell of a configuration. If it
 // isn't, the answer has the first cell at which it is false. These answers were found by hand. The last table is about limits.
-// The expansion of a formula has all quantifiers written out over their cells. The instances of the formula are the parts of
-// its expansion. The reach of the formula is the greatest distance along an axis at which it reads a cell.
+// The expansion of a formula has all quantifiers written out over their cells. Its constants, leaves and connectives are the
+// instances of the formula. (A leaf says that a cell has a certain symbol.) The reach of the formula is the greatest distance
+// along an axis at which it reads a cell.
 use dd_trials_runs::run_on;
 use std::alloc::{AllocError, Global};
 use std::test::Fail;

@@ -1,6 +1,6 @@
 // The least weight of a torus: the answers of runs, and whether a check accepts these and other answers. `%least r [m n]` is
-// about the configurations with the periods m and n and without a shear that obey the rule r. LEAST gives the least weight of
-// one box with these periods, and NONE means that there is no such configuration.
+// about the configurations that obey the rule r and have the periods m and n and no shear. LEAST gives the least weight of one
+// box with these periods, and NONE means that there is no such configuration.
 use crate::outputs::{assert_answers, assert_checks, assert_lines};
 use std::test::Fail;
 

@@ -1,5 +1,5 @@
-// Queries about membership. `%member c r` asks whether the configuration c obeys the rule r. OUT gives the first cell at which
-// it breaks the rule: the position, and then the node.
+// Queries about membership. `%member c r` asks whether the configuration c obeys the rule r. OUT gives the first cell of c's
+// box, in cell order, at which r is false: its position, and then its node.
 use crate::formulas;
 use crate::outputs::assert_answers;
 use dd_trials_runs::HARD;

@@ -1,6 +1,7 @@
-// Minimal forbidden patterns: the lists that runs write, and whether a check accepts these and other lists. A pattern gives
-// symbols to some of the cells that a rule reads at a node, and has a `*` for each cell that it leaves out. It is forbidden if
-// every filling with allowed symbols that agrees with it breaks the rule, and minimal if no further cell can be left out.
+// Minimal forbidden patterns: the lists that runs write, and whether a check accepts these and other lists. A filling gives an
+// allowed symbol to each cell that a rule reads at a node. A pattern gives allowed symbols to some of these cells, and has a
+// `*` for each cell that it leaves out. It is forbidden if every filling that agrees with it breaks the rule. A forbidden
+// pattern is minimal if no pattern that leaves out a further cell is forbidden.
 use crate::outputs::{assert_answers, assert_checks};
 use std::test::Fail;
 
@@ -28,8 +29,8 @@ const LISTS: [(&str, &str); 8] = [
         "%dim 1 %rule eq o=o.rt %minimal eq",
         "query 1 MINIMAL 2\npattern 0 0 1\npattern 0 1 0\n",
     ),
-    // A cell is left out if the rule is false for all of the cell's allowed symbols. With the symbol 1 the rule is true, but 1
-    // isn't allowed.
+    // If the cell to the right is 2, the rule is false for each symbol that the origin's node allows, so the origin is left
+    // out. With the symbol 1 at the origin the rule would be true, but 1 isn't allowed.
     (
         "%dim 1 %alphabet 0 1 2 %only 0 0 2 %rule a o=1 | o.rt=0 %minimal a",
         "query 1 MINIMAL 1\npattern 0 * 2\n",
@@ -66,7 +67,8 @@ const CHECKED: [(&str, bool); 9] = [
         "query 1 MINIMAL 2\npattern 0 1 * *\npattern 0 1 1 *\n",
         false,
     ),
-    // The fillings that break the rule, with no cell left out.
+    // The fillings that break the rule, with no cell left out: as a MINIMAL, and as a LIST, which answers another kind of
+    // query.
     (
         "query 1 MINIMAL 3\npattern 0 1 0 1\npattern 0 1 1 0\npattern 0 1 1 1\n",
         false,

@@ -1,5 +1,5 @@
-// Outputs of runs over scripts, and whether a check accepts them. A run may have engines. An engine may propose an assignment
-// that satisfies a list of clauses, or a refutation of the list, before diddy itself searches for one.
+// Outputs of runs over scripts, and whether a check accepts them. A run may have engines. Before diddy itself searches, an
+// engine may propose an assignment that should satisfy a list of clauses, or steps that should refute the list.
 use dd_outside::{MemorySink, MemorySource};
 use dd_session::{Status, check_diddy};
 use dd_trials_runs::{Member, NO_ENGINES, OF_PROGRAM, Ran, first_lines, run_over};
@@ -86,7 +86,8 @@ pub(crate) fn assert_answers(
     Ok(())
 }
 
-/// For each row, asserts that a check accepts the output with these lines of answers, or that it rejects an answer in it.
+/// For each row, asserts that a check accepts the output with the row's lines of answers, or that the check rejects an answer
+/// in this output, as the row says.
 pub(crate) fn assert_checks(
     rt: &impl Abort,
     alloc: Global,

@@ -12,8 +12,8 @@ const BOX_QUESTIONS: [(&str, &[(&str, bool)]); 4] = [
             // The periods need not be those that a run finds first.
             ("query 1 NO 3 1\nconf 1 0 0\n", true),
             ("query 1 UNKNOWN limits\n", true),
-            // The first configuration breaks `hard`, but not at the origin. The second and the fourth, which is a chessboard,
-            // break nothing. The third doesn't obey the premise.
+            // Of the next four configurations, the first breaks `hard`, but not at the origin. The second and the fourth,
+            // which is a chessboard, break nothing. The third doesn't obey the premise.
             ("query 1 NO 2 1\nconf 0 1\n", false),
             ("query 1 NO 1 1\nconf 0\n", false),
             ("query 1 NO 1 1\nconf 1\n", false),

@@ -135,7 +135,7 @@ const STEPS_IN_TURN: &[(&[i32], bool)] = &[
         true,
     ),
     (&[0, 6, 3, 4, 2, 0, 0, 0, 6, 3, 4, 2, 0, 0], true),
-    // hints to deleted clauses: to one of the list, and to that of a step
+    // hints to deleted clauses: to a clause of the list, and to the clause of a step
     (
         &[1, 0, 6, 3, 0, 6, 0, 2, 0, 6, 4, 0, 0, 0, 7, 8, 2, 0, 0],
         false,
@@ -177,8 +177,8 @@ const STEPS_AFTER_EARLIER_ONES: &[(&[i32], usize, bool)] = &[
     (BOTH_AND_NOTHING, 0, true),
     (BOTH_AND_NOTHING, 1, true),
     (BOTH_AND_NOTHING, 2, true),
-    // what an earlier step deletes is gone, even if that step is wrong: it deletes a clause twice, or the clause of a later
-    // step
+    // what an earlier step deletes is gone, even if that step is wrong because it deletes a clause twice, or deletes the
+    // clause of a later step
     (&[1, 0, 6, 3, 0, 3, 3, 0, 2, 0, 6, 4, 0, 0], 1, true),
     (&[1, 0, 6, 3, 0, 3, 3, 0, 1, 0, 6, 3, 0, 0], 1, false),
     (
@@ -186,7 +186,8 @@ const STEPS_AFTER_EARLIER_ONES: &[(&[i32], usize, bool)] = &[
         2,
         false,
     ),
-    // earlier steps may use a variable out of range; hints to these steps give it a value
+    // a step with a variable out of range is wrong, but a later step may have a hint to it, which can give the variable a
+    // value
     (OUT_OF_RANGE, 0, false),
     (OUT_OF_RANGE, 2, true),
     (

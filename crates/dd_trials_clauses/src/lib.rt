@@ -1,5 +1,5 @@
-//! Tests of clause lists, derivations, searches, engines and the texts of certificates: tables of cases, in addition to what is
-//! proved.
+//! Tests of clause lists, derivations, searches and engines, and of how answers and outputs are written and read: tables of
+//! cases, in addition to what is proved.
 //!
 //! A refutation of a clause list is a list of steps. Each step has a clause that follows from clauses before it. The last
 //! step's clause is empty. The clauses of the list are numbered from 1, and the clauses of the steps get the numbers after

@@ -6,7 +6,7 @@ use dd_derivation::Step;
 use dd_values::Items;
 use std::alloc::{AllocError, Global};
 
-/// A list of one step with these hints and deletes. Its clause has these literals.
+/// A list of one step. The step has these hints and deletes, and its clause has these literals.
 fn steps(
     alloc: Global,
     literals: &[i32],
@@ -37,8 +37,8 @@ fn yes(alloc: Global) -> Result<Answer, AllocError> {
     })
 }
 
-/// The answer that two rules are equal: for each direction, a radius and steps. The steps of the first direction have the
-/// largest variable and the largest hint.
+/// The answer that two rules are equal: for each direction of containment, a radius and steps. The steps of the first
+/// direction have the largest variable and the largest hint that an output can hold.
 fn yes_both(alloc: Global) -> Result<Answer, AllocError> {
     Ok(Answer::YesBoth {
         left: 3,
@@ -84,7 +84,8 @@ fn density(alloc: Global) -> Result<Answer, AllocError> {
     })
 }
 
-/// The amounts and the duals of a discharging bound, over a common denominator.
+/// A bound by discharging, with the numerators of its amounts and duals over a common denominator. The amounts are what
+/// positions give, and the duals show that no amounts give a greater bound.
 fn bound(alloc: Global) -> Result<Answer, AllocError> {
     Ok(Answer::Bound {
         numerator: 1,
@@ -112,7 +113,7 @@ fn starred(alloc: Global, node: u64, symbols: &[Option<u64>]) -> Result<Starred,
     })
 }
 
-/// Four radii, and a list of one step for each. The second step's clause is not empty.
+/// Four radii, and a list of one step for each. The clause of the second list's step is not empty.
 fn conjugate(alloc: Global) -> Result<Answer, AllocError> {
     let mut lists = Items::new(alloc);
     lists.push(steps(alloc, &[], &[6, 3, 4, 2], &[])?)?;

@@ -74,7 +74,7 @@ fn answer(alloc: Global, cnf: &Cnf) -> Result<&'static str, AllocError> {
     Ok(whole)
 }
 
-/// The outcome, if the check of assignments or of refutations confirms it, and otherwise `wrong`.
+/// `found` or `refuted`, as the outcome is, if the check of assignments or of refutations confirms it, and otherwise `wrong`.
 fn confirmed(alloc: Global, cnf: &Cnf, outcome: Outcome) -> Result<&'static str, AllocError> {
     match outcome {
         Outcome::Found(assignment) => {
@@ -100,7 +100,8 @@ fn seven_in_six(alloc: Global) -> Result<Vec<i32>, AllocError> {
 }
 
 /// The pigeonhole clauses of four pigeons and three holes. Before them come 40 variables with clauses of their own, which very
-/// many assignments satisfy. A search that learns nothing refutes the pigeonhole clauses again for each of these assignments.
+/// many assignments satisfy. A search that assigns these variables first and learns nothing refutes the pigeonhole clauses
+/// again for each of these assignments.
 fn four_in_three(alloc: Global) -> Result<Vec<i32>, AllocError> {
     let mut numbers = Vec::new(alloc);
     for pair in 0..20u8 {
@@ -141,7 +142,7 @@ const CASES: &[(u8, usize, &[i32], &str)] = &[
     ),
 ];
 
-/// Asserts how many clauses the numbers give, and the answer.
+/// Asserts that the numbers give the wanted number of clauses, and that these clauses have the wanted answer.
 fn assert_answer(
     rt: &impl Abort,
     alloc: Global,

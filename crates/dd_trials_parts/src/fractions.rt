@@ -28,8 +28,8 @@ enum Call {
     Div,
 }
 
-/// The numerator and the denominator of the result. `Over` divides the numerators of the operands. The other calls do what
-/// their names say. `None` if the divisor is 0, or if a number that is computed on the way is too large.
+/// The numerator and the denominator of the result. `Over` divides the left operand's numerator by the right one's. The other
+/// calls do what their names say. `None` if the divisor is 0, or if a number that is computed on the way is too large.
 fn answer(call: Call, left: &Fraction, right: &Fraction) -> Option<(i128, i128)> {
     let result = match call {
         Call::Over => Fraction::new(left.num(), right.num()),
@@ -102,8 +102,8 @@ const DIFFERENCES: &[(Pair, Pair, Pair, Option<Pair>)] = &[
     ((7, 6), (1, 2), (1, 3), Some((1, 1))),
     ((5, 7), (-2, 3), (1, 5), Some((89, 105))),
     ((1, 6), (1, 2), (1, 3), Some((0, 1))),
-    // Fractions of 16-bit numbers have a faster method. Here are the least numerator of 16 bits, and in the second row
-    // denominators near the greatest of 16 bits.
+    // Fractions have a faster method if their numerators fit in 16 bits with a sign, and their denominators in 16 bits without
+    // one. The next two rows have the least such numerator, and the second has denominators near the greatest such one.
     (
         (-32768, 1),
         (-32768, 1),
@@ -116,13 +116,14 @@ const DIFFERENCES: &[(Pair, Pair, Pair, Option<Pair>)] = &[
         (32766, 65531),
         Some((-70356933443584, 281436323512305)),
     ),
-    // One more than fits in 16 bits.
+    // One more than the greatest such numerator, and than the greatest such denominator.
     ((32768, 1), (1, 1), (1, 1), Some((32767, 1))),
     ((1, 65536), (1, 65536), (1, 1), Some((0, 1))),
     // Numbers of nearly 128 bits.
     ((-P126, 1), (P63, 1), (P63, 2), Some((-P126 - P126 / 2, 1))),
     ((MAX, 1), (P63, 1), (P63, 1), Some((MAX - P126, 1))),
-    // 2^127 - 1 less 2^127 fits, but the product 2^127 does not. In the next row the product fits, but the difference does not.
+    // 2^127 - 1 less 2^127 fits, but the product 2^127 does not. In the next row the product fits, but the difference, -2^127,
+    // is greater than 2^127 - 1 in absolute value.
     ((MAX, 1), (P64, 1), (P63, 1), None),
     ((-P126, 1), (P63, 1), (P63, 1), None),
 ];

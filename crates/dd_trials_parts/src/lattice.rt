@@ -1,5 +1,6 @@
-//! Boxes, regions and the order of cells. A region is a finite set of positions. Growing a region by n adds all positions that
-//! differ from one of its own by at most n in each of the first d coordinates, and not in the others. Here d is the dimension.
+//! Boxes, regions and the order of cells. A position has one or more nodes, and a cell is a position and the number of one of
+//! its nodes. A region is a finite set of positions. Let d be the dimension. Growing a region by n adds all positions that
+//! differ from some position of the region by at most n in each of the first d coordinates, and not at all in the others.
 //! Cells are in order of z, then of y, then of x, and then of their nodes.
 use dd_lattice::{Box3, Cell, LatticeFault, Position, centred_box, in_order, positions};
 use std::test::Fail;

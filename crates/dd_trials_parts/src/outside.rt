@@ -1,4 +1,4 @@
-//! Sources and sinks of bytes, with a limit on their length and with faults.
+//! Sources and sinks of bytes: limits on how much is read or held, and faults of reads and writes.
 use dd_outside::{
     MemorySink, MemorySource, QuietSink, QuietSource, ReadAllFault, Sink, WriteFault, read_all,
     write_whole,

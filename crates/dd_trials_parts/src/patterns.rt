@@ -1,6 +1,6 @@
-//! Symbols of periodic configurations and of fillings, and the order of periods and shears. A periodic configuration repeats a
-//! box, which has the periods as its sides. With a shear, each copy of the box lies to the right of the one below it, by the
-//! shear.
+//! Symbols of periodic configurations and of fillings, and the order of periods and shears. A filling gives a symbol to each
+//! of finitely many cells. A periodic configuration repeats a box, which has the periods as its sides. With a shear, each copy
+//! of the box lies to the right of the one below it, by the shear.
 ghost use Rattle.std.specs.Prelude.{◌≡◌, IfSome};
 
 use dd_lattice::{Cell, Position, in_order};
@@ -160,7 +160,7 @@ fn fillings(rt: HostRuntime) -> Result<(), Fail> {
     Ok(())
 }
 
-/// The symbols of the filling on these cells; empty if it lacks one of them.
+/// The symbols of the filling on these cells; empty if the filling lacks one of the cells.
 fn restricted(alloc: Global, filling: &Filling, cells: &[Cell]) -> Result<Vec<u32>, Fail> {
     let domain = in_order(alloc, cells)?;
     match filling.restrict(alloc, &domain)? {

@@ -1,14 +1,14 @@
-//! Small linear programs. The variables of a program are its columns, which are at least 0. A row says that the sum of its
-//! coefficients times the columns is at most its bound. The cap is a bound on column 0, which is maximised. An answer is a
-//! fault or a solution. A solution has the greatest value, the columns at which it is taken, and the duals. These are factors
-//! for the cap and the rows, and they show that no value is greater. The results were worked out by a reference implementation
-//! with exact fractions, and by trying all vertices.
+//! Small linear programs. The variables of a program are its columns, which are at least 0. A row has a coefficient for each
+//! column. It says that the sum of the columns, each times its coefficient, is at most the row's bound. The cap is a bound on
+//! column 0, which is maximised. An answer is a fault or a solution. A solution has the greatest value, the columns at which
+//! it is taken, and the duals. These are factors for the cap and the rows, and they show that no value is greater. The results
+//! were worked out by a reference implementation with exact fractions, and by trying all vertices.
 use dd_fraction::Fraction;
 use dd_simplex::{Program, SimplexFault, Solved, maximise};
 use std::alloc::{AllocError, Global};
 use std::test::Fail;
 
-/// The fraction that this text writes: an integer, or two integers with a '/' between them.
+/// The fraction written in this text: an integer, or two integers with a '/' between them.
 fn fraction(text: &str) -> Result<Fraction, Fail> {
     let (num, den) = match text.split_once('/') {
         Some(parts) => parts,
@@ -79,8 +79,9 @@ fn described(alloc: Global, answer: &Result<Solved, SimplexFault>) -> Result<Str
     }
 }
 
-/// A name, the number of columns, the cap on column 0, the rows, the limit on pivots, and the answer. The first dual is that of
-/// the cap. A name that begins with `first past 2^127` says which number is the first that doesn't fit.
+/// A name, the number of columns, the cap on column 0, the rows, the limit on pivots, and the answer. The first dual is that
+/// of the cap. A name that begins with `first past 2^127` says which number is the first that doesn't fit. If it is one of the
+/// value or of the costs, the same number, up to its sign, comes first in the line of column 0 (see below).
 const CASES: &[(&str, u32, i64, &str, u32, &str)] = &[
     (
         "one column under its cap",
@@ -380,10 +381,11 @@ const CASES: &[(&str, u32, i64, &str, u32, &str)] = &[
         6,
         "Overflow",
     ),
-    // The dictionary writes the objective and some of the variables in terms of the others, on a line each. The costs are the
-    // coefficients of the objective. The objective is column 0. So, once column 0 has a line, the line of the objective in the
-    // dictionary has the same numbers as the line of column 0. The line of column 0 is computed first. In the next six cases no
-    // line but these two has a number that is too large.
+    // The dictionary has a line for the objective, and a line for each basic variable. A line writes the objective, or its
+    // variable, in terms of the variables that are not basic. The costs are the coefficients of the objective. The objective
+    // is column 0. So, once column 0 is basic, the line of the objective in the dictionary has the same numbers as the line of
+    // column 0. The line of column 0 is computed first. In the next six cases no line but these two has a number that is too
+    // large.
     (
         "first past 2^127: the product in the value, 9 * 2^124",
         2,

@@ -1,4 +1,5 @@
-//! Balls of the built-in topologies, drawn by hand; topologies made from edges; and which symbols a node allows.
+//! Balls of the built-in topologies, drawn by hand; topologies made from edges; and which symbols a node allows. A position
+//! has one or more nodes. A cell is a position and the number of one of its nodes.
 ghost use Rattle.std.specs.Prelude.{◌≡◌, pos};
 ghost use Rattle.dd_lattice.specs.Place.{place};
 ghost use Rattle.dd_topology.specs.Builtin.{link};

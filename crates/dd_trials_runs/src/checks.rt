@@ -174,7 +174,7 @@ const STEPS: [(&str, &str, Status, &str); 13] = [
         Status::Definite,
         "query 1 accepted\nchecked 1\n",
     ),
-    // One hint too few.
+    // Two rows with one hint too few.
     ("6 3 4 2", "6 4 2", Status::Rejected, "query 1 rejected\n"),
     ("6 3 4 2", "6 3 4", Status::Rejected, "query 1 rejected\n"),
     // The first hint names a clause that isn't unit.
@@ -294,7 +294,7 @@ fn assert_check(
     Ok(())
 }
 
-// Alters the output as each row says. Asserts the status and the text with which the check of the altered output ends.
+// Alters the output as each row says. Asserts the status with which the check of the altered output ends, and what it writes.
 fn assert_changes(
     rt: &impl Abort,
     alloc: Global,

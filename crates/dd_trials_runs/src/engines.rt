@@ -1,5 +1,5 @@
-//! Rosters of engines, and sessions over them. A roster has engines of the kinds that the program uses, and fake engines, most
-//! of which make wrong proposals.
+//! Rosters of engines, and sessions over them. A roster may have engines of the kinds that the program uses, and fake engines,
+//! most of which make wrong proposals.
 ghost use Rattle.std.specs.Prelude.{false};
 
 use crate::runs::words_of;
@@ -25,7 +25,7 @@ pub enum Habit {
     NoMemoryAtFirst,
     /// Nothing at the first call, and a refutation without steps at each later call.
     ChangesItsMind,
-    /// By turns: nothing, a right answer, and a refutation without steps.
+    /// By turns: nothing, a right proposal, and a refutation without steps.
     ByTurns,
     /// A refutation without steps for a list with exactly these numbers of variables and clauses, and otherwise nothing.
     OfSize { variables: u32, clauses: usize },
@@ -56,7 +56,7 @@ fn all_false(alloc: Global, cnf: &Cnf) -> Result<Proposal, AllocError> {
     Ok(Proposal::Found(Assignment::new(values)))
 }
 
-/// A right answer, found by the solver.
+/// A right proposal, found by the solver.
 fn solved(alloc: Global, cnf: &Cnf) -> Result<Proposal, AllocError> {
     match solve(alloc, cnf)? {
         Outcome::Found(assignment) => Ok(Proposal::Found(assignment)),
@@ -135,8 +135,8 @@ pub const NO_ENGINES: &[Member] = &[];
 /// The engines of the program.
 pub const OF_PROGRAM: &[Member] = &[Member::Propagator, Member::Walker(10_000)];
 
-/// The status of a session with these words, which are separated by single spaces, this input and these engines; and how many
-/// engines are left after it. The sink then holds what was written.
+/// Runs a session over this input with these engines. Its words are given in `word`, separated by single spaces. Returns the
+/// status of the session, and how many engines are left after it. The sink then holds what was written.
 pub fn session_over(
     alloc: Global,
     word: &str,

@@ -1,5 +1,5 @@
-// Runs with rosters of engines, most of which make wrong proposals. The first lines of the answers are the same over every
-// roster, and engines that are found wrong are dropped.
+// Runs with rosters of engines. Most of these engines make wrong proposals. Unless memory runs out, the first lines of the
+// answers are the same over every roster. Engines that are found wrong are dropped.
 use crate::engines::{Habit, Member, OF_PROGRAM, session_over};
 use crate::runs::{first_lines, run_over};
 use dd_outside::MemorySink;
@@ -18,17 +18,19 @@ const FICKLE: Member = Member::Fake(Habit::ChangesItsMind);
 
 const BY_TURNS: Member = Member::Fake(Habit::ByTurns);
 
-// The first box that is tried suffices: no symbols in it both obey `hard` and break `row` at the origin. So the answer is YES.
+// The first box around the origin that is tried suffices: no choice of symbols in it breaks `row` at the origin and obeys
+// `hard` at each cell at which `hard` reads only cells of the box. So the answer is YES.
 const YES: &str = "%rule hard o=1 -> (o.rt=0 & o.up=0) %rule row o=1 -> o.rt=0 %contains row hard";
 
-// No box suffices. After the boxes, periods are tried, until a configuration with these periods shows the answer NO.
+// No box suffices. After the boxes, periods are tried, until a configuration with the periods 2 and 1 shows that the answer is
+// NO.
 const NO: &str = "%rule hard o=1 -> (o.rt=0 & o.up=0) %rule row o=1 -> o.rt=0 %contains hard row";
 
 // The box of radius 3 suffices, and no smaller one does.
 const DIES: &str =
     "%dim 1 %limits 3 4 10000 %rule dies (o=1 -> o.rt=1) & !(o=1 & o.rt=1 & o.rt.rt=1) %rule zero o=0 %contains zero dies";
 
-// The engines, and how many of them are left after a run of the script `YES` and after one of the script `NO`.
+// The engines, how many of them are left after a run of the script `YES`, and how many after a run of the script `NO`.
 const LEFT: &[(&[Member], usize, usize)] = &[
     (&[], 0, 0),
     (&[NO_STEPS], 0, 0),
@@ -65,7 +67,7 @@ fn the_lines_are_the_same_over_every_roster(rt: HostRuntime) -> Result<(), Fail>
     Ok(())
 }
 
-// Engines that never run out of memory.
+// Fake engines, one with each habit except `NoMemoryAtFirst` and `OfSize`.
 const FAKES: [Member; 5] = [SILENT, NO_STEPS, ALL_FALSE, FICKLE, BY_TURNS];
 
 #[test]
@@ -100,10 +102,10 @@ fn an_engine_runs_out_of_memory(rt: HostRuntime) -> Result<(), Fail> {
 }
 
 // Each row is about the box of one radius, from 0 to 4. It has the numbers of variables and clauses in the box's list of
-// clauses, and how many engines are left after the run. The roster has one engine. It gives a wrong refutation of a list of
-// this size, and proposes nothing for any other list. So it is found wrong exactly when it is asked about the list of this box.
-// The search asks about the radii 0 to 3, and the engine is given the lists of these boxes as they are, before any variable is
-// eliminated.
+// clauses, and how many engines are left after the run. The roster has one engine. For a list of this size the engine proposes
+// a wrong refutation, and for any other list it proposes nothing. So it is found wrong exactly when it is asked about the list
+// of this box. The search asks about the radii 0 to 3, and the engine is given the lists of these boxes as they are, before
+// any variable is eliminated.
 #[test]
 fn engines_are_asked_for_the_boxes_themselves(rt: HostRuntime) -> Result<(), Fail> {
     let alloc = rt.alloc();

@@ -47,8 +47,8 @@ pub fn run_on(alloc: Global, bytes: &[u8]) -> Result<(Status, Vec<u8>), AllocErr
     Ok((ran.status, ran.output))
 }
 
-/// The lines of an output that begin with the word `query`, each with a line feed. If no line of its script does, these are the
-/// first lines of its answers. Fails if the output is not UTF-8, or if memory runs out.
+/// The lines of an output that begin with the word `query`, each with a line feed. If no line of the script begins with this
+/// word, these are the first lines of the answers. Fails if the output is not UTF-8, or if memory runs out.
 pub fn first_lines(alloc: Global, output: Vec<u8>) -> Result<String, Fail> {
     let mut lines = String::new(alloc);
     for line in String::from_utf8(output)?.lines() {

@@ -128,8 +128,8 @@ fn session_over(
     Ok((status, Vec::from_slice(alloc, sink.held_bytes())?))
 }
 
-// Asserts that the session ends with this status, and that the sink then holds this many bytes, the first ones of what the
-// session writes.
+// Asserts that the session ends with this status, that the sink then holds this many bytes, and that these are the first bytes
+// of what the session writes if nothing fails.
 fn assert_front(
     rt: &impl Abort,
     alloc: Global,
@@ -149,7 +149,8 @@ fn assert_front(
     Ok(())
 }
 
-// Asserts that nothing is written if any of the first `reads` reads fails, and that the session makes no read after these.
+// Asserts that nothing is written if any of the first `reads` reads fails, and that the session makes no more than `reads`
+// reads.
 fn assert_reads(rt: &impl Abort, alloc: Global, session: Session, reads: u64) -> Result<(), Fail> {
     let (_, _, status, written) = session;
     let capacity = written.len();
@@ -169,8 +170,8 @@ fn assert_reads(rt: &impl Abort, alloc: Global, session: Session, reads: u64) ->
     assert_front(rt, alloc, session, outside, (status, capacity))
 }
 
-// `fronts` has a number for each write of the session. Asserts that the sink holds this many bytes if the write fails, and that
-// the session makes no write after these.
+// `fronts` has a number for each write of the session. Asserts that the sink holds this many bytes if the write fails, and
+// that the session makes no more writes than these.
 fn assert_writes(
     rt: &impl Abort,
     alloc: Global,

@@ -25,12 +25,14 @@ most_weight = 1000
 abbrev pub widest_radius : ℕ
 widest_radius = 3
 
--- the highest limits that a script may set on the radii and the periods that a search tries, and on the number of pivots
+-- the highest limit that a script may set on the radii that the search tries
 abbrev pub greatest_radius : ℕ
 greatest_radius = 8
 
+-- the highest limit that a script may set on the periods that the search tries
 abbrev pub greatest_period : ℕ
 greatest_period = 8
 
+-- the highest limit that a script may set on the number of pivots
 abbrev pub most_pivots : ℕ
 most_pivots = 100000

@@ -97,7 +97,7 @@ impl<T: Drop> Items<T> {
 }
 
 impl<T: Copy> Items<T> {
-    /// Returns a list of the same items, or `AllocError` if memory runs out.
+    /// Returns a list of the slice's items, or `AllocError` if memory runs out.
     pub fn from_slice(alloc: Global, items: &[T]) -> Result<Items<T>, AllocError>
         ensures { IfOk result (λ list. list ≡ items.now) }
     {

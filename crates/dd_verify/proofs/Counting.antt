@@ -1,4 +1,4 @@
--- A box question takes few enough clauses for every radius up to the largest that may be tried. The radius of a YES is within its bounds.
+-- For every radius up to the largest that may be tried, a box question has few enough clauses. The radius of a YES is within its bounds.
 use Rattle.std.proofs.Common.{ℕ, ◌<◌, ◌≤◌, List, arith}
 use Rattle.std.specs.Prelude.{max}
 use Rattle.dd_lattice.specs.Boxes.{centred, volume}
@@ -16,7 +16,7 @@ box_few l x g least n rule askable is le =
     let most = max l.radius least in
     fewer x g most l.period (volume (centred x.dimension n)) (box_up x.dimension n most l.period rule.dimension.0 rule.dimension.1 le) (askable.small least is)
 
--- ---- the radius of a YES is at least the goal's least radius, of which there is only one, and at most the greater of it and the limit
+-- ---- the radius of a YES is at least the goal's least radius (there is only one), and at most the greater of the least radius and the limit
 
 pub too_near : (l : Limits) (x : LocalRule) (g : GoalOf) (n : ℕ) (steps : List Step) (least : ℕ) → IsLeastRadius g least → n < least → IsYes l x g n steps → ⊥
 too_near l x g n steps least is near told =

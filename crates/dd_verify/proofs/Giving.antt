@@ -26,7 +26,7 @@ made_tile r along shear d n x y z items symbols d_is n_is x_is y_is z_is symbols
     ∙ (ap (λ k. tile r.dimension (given_periods along shear) k items) n_is
     ∙ ap (λ k. tile r.dimension (given_periods along shear) r.nodes k) symbols_are))))
 
--- if its periods are at most 8, this configuration has few enough symbols for code to hold
+-- if its periods are at most 8, this configuration has few enough symbols for the code to hold it
 given_small : (x : LocalRule) (most : ℕ) (along : List ℕ) (shear : ℕ) (symbols : List ℕ) → IsRule x → most ≤ 8 → IsGiven x most along shear symbols →
     IsPeriodic (given_tile x along shear symbols)
 given_small x most along shear symbols rule few given =

@@ -1,5 +1,5 @@
 -- The grown box consists of the positions of Z^d that are at most e away from a box along each axis. If each admissible filling of the grown box
--- weighs at least so much on the box, so does each configuration that obeys the rule.
+-- weighs at least a given number on the box, so does each configuration of allowed symbols that obeys the rule.
 use Rattle.std.proofs.Common.{◌≡◌, ◌<◌, ◌≤◌, ◌+◌, ◌*◌, ◌^◌, ℕ, Bool, true, false, List, length, refl, ap, ◌∙◌, arith, None}
 use Rattle.std.proofs.lemmas.Bool.{and_parts, and_from, cond_both, lt-ltb, ltb-true}
 use Rattle.std.proofs.{lemmas.Bool.Decides.Decides-int_eq, lemmas.Int.ints, Math.Nat.mul-le-mul}

@@ -18,20 +18,21 @@ use Rattle.dd_certificate.specs.declared.answer.Answer.TheVariants as answer
 
 -- Least densities. A strip has periods along y and z, listed by `strip`, and no end along x. A configuration lives on the strip if it has allowed
 -- symbols, these two periods, any period along x and no shear, and obeys the rule. `ws` lists the weights of the symbols, and the density of a
--- configuration is its weight per position. A slice consists of the strip's cells with one value of x. A state of the strip's transfer graph gives each
--- cell of a number of consecutive slices a symbol of the alphabet, whether or not the cell's node allows it. It has an edge for each filling of the
--- next slice that may follow it. A certificate for the density p / q has a closed walk through this graph, and potentials (a number for each state)
--- which show that no closed walk has a smaller mean weight. The mean weight of the walk, divided by the number of positions in a slice, is p / q. Or a
--- certificate has ranks (a number for each state, which falls along each edge). They show that there is no closed walk, and so no configuration on the
--- strip.
+-- configuration is its weight per position. A slice consists of the strip's cells with one value of x. A state of the strip's transfer graph gives
+-- each cell of a number of consecutive slices a symbol of the alphabet, whether or not the cell's node allows it. For each filling of the next slice
+-- that may follow a state, an edge leads from this state. A certificate for the density p / q has a closed walk through this graph, and potentials (a
+-- number for each state) which show that no closed walk has a smaller mean weight. (A walk weighs as much as the last slices of its states together.
+-- Its mean weight is this weight divided by the number of its states.) The mean weight of the certificate's walk, divided by the number of positions
+-- in a slice, is p / q. If no configuration lives on the strip, a certificate instead has ranks: a number for each state, which falls along each
+-- edge. The ranks show that there is no closed walk, and so no configuration on the strip.
 pub data IsStripCertificate (x : LocalRule) (strip ws : List ℕ) : Answer → Type 0 where
   strip_least : {p q : ℕ} {cycle : List ℕ} {potentials : List ℤ} → IsDensityCertificate x (strip_for x strip) ws p q cycle potentials →
       IsStripCertificate x strip ws (answer.Density p q cycle potentials)
   strip_empty : {ranks : List ℕ} → IsEmptyCertificate x (strip_for x strip) ranks → IsStripCertificate x strip ws (answer.Empty ranks)
 
--- p / q is the least density of the configurations that live on the strip. m / l is the mean weight of the cycle, its weight divided by its length,
--- in lowest terms. Let k be the number of slices in a state. In an admissible filling of k + j slices, l times the weight of the last j slices is at
--- least m * j - s, where s is the spread of the potentials (the greatest less the least).
+-- p / q is the least density of the configurations that live on the strip. m / l is the mean weight of the closed walk `cycle`, in lowest terms. Let
+-- k be the number of slices in a state. In an admissible filling of k + j slices, l times the weight of the last j slices is at least m * j - s,
+-- where s is the spread of the potentials (the greatest less the least).
 pub record IsLeastOnStrip (x : LocalRule) (strip ws : List ℕ) (p q : ℕ) (cycle : List ℕ) (potentials : List ℤ) : Type 0 where
   pub m : ℕ
   pub l : ℕ
@@ -44,11 +45,11 @@ pub data StripClaim (x : LocalRule) (strip ws : List ℕ) : Answer → Type 0 wh
   claims_least : {p q : ℕ} {cycle : List ℕ} {potentials : List ℤ} → IsLeastOnStrip x strip ws p q cycle potentials → StripClaim x strip ws (answer.Density p q cycle potentials)
   claims_empty : {ranks : List ℕ} → StripEmpty x (strip_for x strip) (greatest ranks + state_length x) → StripClaim x strip ws (answer.Empty ranks)
 
--- Discharging. Each position first holds a weight, and then gives amounts along the vectors `vs`. What a position gives along a vector depends on the
--- symbols of the box of radius `radius` round it. A certificate has amounts that meet the rows of a linear program: in each admissible filling of a
--- finite region, the origin then holds at least the bound. It also has duals (factors of the rows) which show that no amounts that meet the rows give a
--- greater bound. The region consists of the boxes of this radius round the origin and round the positions that give to it, enlarged by `margin` in
--- every direction. Or the answer is UNKNOWN, with a reason why no bound was found.
+-- Discharging. Each position first holds the weight of its symbols, and then gives amounts along the vectors `vs`. What a position gives along a
+-- vector depends on the symbols of the box of radius `radius` round it. A certificate has amounts that meet the rows of a linear program: in each
+-- admissible filling of a finite region, the origin then holds at least the bound. It also has duals (factors of the rows) which show that no amounts
+-- that meet the rows give a greater bound. The region consists of the boxes of this radius round the origin and round the positions that give to it,
+-- enlarged by `margin` in every direction. Or the answer is UNKNOWN, with one of three reasons why no bound was found.
 pub data IsDischargeCertificate (x : LocalRule) (radius margin : ℕ) (vs : List Place) (ws : List ℕ) : Answer → Type 0 where
   best : {p q n : ℕ} {amounts duals : List ℕ} → IsBoundCertificate x ws radius margin vs (bound_claimed p q n amounts duals) →
       IsDischargeCertificate x radius margin vs ws (answer.Bound p q n amounts duals)
@@ -58,7 +59,8 @@ pub data IsDischargeCertificate (x : LocalRule) (radius margin : ℕ) (vs : List
 
 -- What a bound p / q claims. No amounts that meet the rows of the linear program give a greater bound. Now move Side(n), the box of side n, to any
 -- position of Z^d, and take an admissible filling of all positions within reach of the moved box (see `reach_of` in dd_sides). On the moved box, this
--- filling weighs at least n^d times p / q, less what the box may receive from outside. So does each configuration that obeys the rule.
+-- filling weighs at least n^d times p / q, less what the box may receive from outside. So does each configuration of allowed symbols that obeys the
+-- rule.
 pub record IsBestBound (x : LocalRule) (ws : List ℕ) (radius margin : ℕ) (vs : List Place) (b : Bound) : Type 0 where
   pub best : BestOf x ws radius margin vs b.numerator b.denominator
   pub sides : HoldsOnSides x ws radius margin vs b

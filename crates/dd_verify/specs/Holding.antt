@@ -25,9 +25,9 @@ pub data MemberClaim (x : LocalRule) (t : Tile) : Answer → Type 0 where
   says_outside : {place : List ℤ} → IsFalseAt x t place → MemberClaim x t (answer.Outside place)
 
 -- Box questions. YES, with the radius n, claims that the goal holds nowhere: no configuration that obeys the premise has the goal at any position. It
--- also claims that the box of radius n round the origin has all cells that the goal reads at the origin, and that no admissible filling has the goal
--- at a position if it gives a symbol to each cell of the box of radius n round this position. NO claims that the configuration has allowed symbols,
--- lives in the premise's subshift and has the goal at the origin. UNKNOWN claims nothing.
+-- also claims two things about boxes of radius n. The box of this radius round the origin has all cells that the goal reads at the origin. If an
+-- admissible filling gives a symbol to each cell of the box of this radius round a position, it does not have the goal at this position. NO claims
+-- that the configuration has allowed symbols, lives in the premise's subshift and has the goal at the origin. UNKNOWN claims nothing.
 pub data BoxClaim (x : LocalRule) (g : GoalOf) : Answer → Type 0 where
   says_nowhere : {n : ℕ} {steps : List Step} → HoldsNowhere x g n → BoxClaim x g (answer.Yes n steps)
   says_witness : {along : List ℕ} {shear : ℕ} {symbols : List ℕ} → IsWitness x g (given_tile x along shear symbols) → BoxClaim x g (answer.No side.Whole along shear symbols)
@@ -42,9 +42,9 @@ pub data EqualClaim (x y : LocalRule) : Answer → Type 0 where
   says_right : {along : List ℕ} {shear : ℕ} {symbols : List ℕ} → IsWitness y (breaks x) (given_tile y along shear symbols) → EqualClaim x y (answer.No side.Right along shear symbols)
   says_none : {r : Reason} → EqualClaim x y (answer.Unknown r)
 
--- Conjugacies. CONJUGATE claims that the goal of each of the four box questions holds nowhere. BROKEN names one of these questions. It claims that
--- the configuration has allowed symbols, lives in the subshift of this question's premise, and has this question's goal at the origin. UNKNOWN claims
--- nothing.
+-- Conjugacies. CONJUGATE claims that the goal of each of the four box questions of `ConjugacyOf` holds nowhere. BROKEN names one of these questions.
+-- It claims that the configuration has allowed symbols, lives in the subshift of this question's premise, and has this question's goal at the origin.
+-- UNKNOWN claims nothing.
 pub data ConjugacyClaim (c : ConjugacyOf) : Answer → Type 0 where
   says_conjugate : {n1 n2 n3 n4 : ℕ} {s1 s2 s3 s4 : List Step} → HoldsNowhere c.from c.image n1 → HoldsNowhere c.to c.image_back n2 → HoldsNowhere c.from c.round n3 →
       HoldsNowhere c.to c.round_back n4 → ConjugacyClaim c (answer.Conjugate (n1 ∷ n2 ∷ n3 ∷ n4 ∷ []) (s1 ∷ s2 ∷ s3 ∷ s4 ∷ []))

@@ -1,8 +1,8 @@
 -- which answers to questions are certificates, and what they claim
 pub mod Certificates
--- Which answers are certificates for a box question, or for a question that comes down to several. A box question has a rule, the premise, and a
--- goal: a property of a position, such as that another rule is broken there. It asks whether no configuration that obeys the premise has the goal at
--- any position.
+-- Which answers are certificates for a box question, or for a question that comes down to several. A box question has a premise, which is a rule, and
+-- a goal, which is a property of a position: for instance, that another rule is broken there. It asks whether no configuration that obeys the premise
+-- has the goal at any position.
 pub mod Evidence
 -- what answers claim, for each kind of question that is not about weights
 pub mod Holding
@@ -12,5 +12,5 @@ pub mod Bounds
 pub mod Tori
 -- when the numbers of an answer give a configuration
 pub mod Given
--- the facts about the goals of a question, on which the truth of its certificates' claims rests
+-- the facts about the goals of a question, which are used to prove that the claims of its certificates are true
 pub mod GoalFacts

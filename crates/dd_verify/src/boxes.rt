@@ -26,7 +26,7 @@ pub(crate) fn is_limits(reason: Reason) -> bool
     matches!(reason, Reason::Limits)
 }
 
-/// Whether the side is that of an answer to a single box question.
+/// Whether the side is `Side::Whole`, the side in an answer to a single box question.
 fn is_whole(side: Side) -> bool
     ensures { IsTrue result ↔ (side ≡ Side.Whole) }
 {
@@ -77,8 +77,8 @@ pub(crate) fn check_box(
 }
 
 /// Whether the configuration certifies a NO on this side, and an output can hold this NO. The left side is the box question
-/// with the premise `left` and the goal that `right` is broken, and the right side is the other one. For `Side::Whole`, the
-/// result is false.
+/// with the premise `left` and the goal that `right` is broken. The right side is the box question with the premise `right` and
+/// the goal that `left` is broken. For `Side::Whole`, the result is false.
 fn check_side(
     alloc: Global,
     left: &Rule,

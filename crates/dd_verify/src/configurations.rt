@@ -72,9 +72,9 @@ fn is_broken(rule: &Rule, periodic: &Periodic) -> bool
     false
 }
 
-/// Whether the configuration is a witness that the rule `goal` doesn't follow from the premise: the premise's nodes allow its
-/// symbols, it lives in the premise's subshift, and `goal` is false at some node of the origin. The configuration must fit the
-/// premise, and the two rules must have the same dimension, nodes and alphabet. This test allocates no memory.
+/// Whether the configuration is a witness that the rule `goal` doesn't follow from the premise: its symbols are allowed by the
+/// premise's nodes, it lives in the premise's subshift, and `goal` is false at some node of the origin. The configuration must
+/// fit the premise, and the two rules must have the same dimension, nodes and alphabet. This test allocates no memory.
 pub fn check_periodic(premise: &Rule, goal: &Rule, periodic: &Periodic) -> bool
     requires fits { Fits premise.now periodic.now }
     requires alike { AreAlike premise.now goal.now }
@@ -88,8 +88,8 @@ pub fn check_periodic(premise: &Rule, goal: &Rule, periodic: &Periodic) -> bool
     is_broken(goal, periodic)
 }
 
-/// Whether the configuration is a witness of the goal: the premise's nodes allow its symbols, it lives in the premise's
-/// subshift, and it has the goal at the origin.
+/// Whether the configuration is a witness of the goal: its symbols are allowed by the premise's nodes, it lives in the
+/// premise's subshift, and it has the goal at the origin.
 pub(crate) fn shows(
     alloc: Global,
     premise: &Rule,

@@ -19,10 +19,10 @@ use dd_question::{CheckedQuestion, Question};
 use dd_sides::bound_holds;
 use dd_strips::{strip_empty, strip_least};
 
-/// Does nothing. Its contract says that the facts about the goal hold (see `HasGoalFacts` in `dd_problem`), if the goal fits
-/// the premise and the goal's rule, if it has one, is well formed. The facts are that this rule or the automata of the goal fit
-/// the premise, that the automata read only cells of the lattice, and that the gates made for their values (see `dd_compile`)
-/// compute these values.
+/// Does nothing. Its contract is about a goal that fits the premise. If the goal has a rule, this rule must be well formed.
+/// The contract says that the facts about the goal hold (see `HasGoalFacts` in `dd_problem`). The facts are that this rule or
+/// the automata of the goal fit the premise, that the automata read only cells of the lattice, and that the gates made for
+/// their values (see `dd_compile`) compute these values.
 fn goal_facts(goal: &Goal)
     ensures { (x : LocalRule) → IsGoalFor x (goal_of x goal.now) → KeepsRule (goal_of x goal.now) → HasGoalFacts x (goal_of x goal.now) }
 {
@@ -39,14 +39,14 @@ fn goal_facts(goal: &Goal)
 }
 
 /// Does nothing. Its contract says that the claim of each certificate for the question is true. BOUND, the answer about a
-/// discharge, claims that its bound is the best, and that it holds for boxes of every side length at every position: in each
-/// admissible filling of a box and of the positions within its reach (see `reach_of` in `dd_sides`), and in each configuration
-/// that obeys the rule, the box weighs at least the number of its positions times the bound, less what it may receive from
-/// outside in the discharge.
+/// discharge, claims that its bound is the best. It also claims that the bound holds for boxes of every side length at every
+/// position: in each admissible filling of a box and of the positions within its reach (see `reach_of` in `dd_sides`), and in
+/// each configuration of allowed symbols that obeys the rule, the box weighs at least the number of its positions times the
+/// bound, less what it may receive from outside in the discharge.
 pub fn claims_hold(question: &CheckedQuestion)
     ensures { (answer : AnyAnswer) → IsCertificateOf question.now.limits question.now.question answer → ClaimOf question.now.question answer }
 {
-    // For each kind of question, these calls give the laws on which its claims rest.
+    // For each kind of question, these calls give the laws on which the claims of its certificates rest.
     match question.question() {
         Question::Membership { .. } => {}
         Question::Box { goal, .. } => goal_facts(&goal),

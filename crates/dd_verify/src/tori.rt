@@ -113,9 +113,9 @@ fn refutes_below(
     Ok(check_refutation(&cnf, steps, &mut marks))
 }
 
-/// Whether an output can hold the steps, and they show that `weight` is a lower bound: no configuration that has allowed
-/// symbols, these periods and no shear, and lives in the rule's subshift, weighs less. If `weight` is 0, there must be no
-/// steps.
+/// Whether the steps show that `weight` is a lower bound, and an output can hold them. The bound is for the weights of the
+/// configurations that have allowed symbols, these periods and no shear, and live in the rule's subshift. If `weight` is 0,
+/// there must be no steps.
 fn bounds(
     alloc: Global,
     rule: &Rule,

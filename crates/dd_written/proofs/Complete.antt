@@ -1,4 +1,4 @@
--- A formula is read from its text, unless the tokens that follow could continue it.
+-- A formula with `IsWrittenFormula` is read from its text, unless the tokens that follow could continue it.
 use Rattle.std.proofs.Common.{◌≡◌, ℕ, zero, suc, ◌-◌, ◌+◌, ◌≤◌, ◌<◌, Bool, true, false, List, [], ◌∷◌, ◌++◌, map, length, drop, Some, refl, ap, subst, ◌∙◌, append_assoc, arith, inl, inr, nat_le, ◌&&◌}
 use Rattle.std.specs.List.{flat_map, list_all, AllByRecursion}
 use Rattle.std.proofs.lemmas.Bool.{and_parts, cases_eq, ltb-true, le-leb, leb-true}
@@ -63,7 +63,7 @@ quantifier_again variable b balls rest = ap (λ (x : List Ball × List Lexeme). 
 
 -- ---- chains
 
--- the reader `part` reads f from its text, if the tokens that follow can't continue f
+-- the reader `part` reads f from its text, if the tokens that follow can't continue f at this place
 abbrev ReadBy : Reader Formula → ℕ → Formula → Type 0
 ReadBy part place f = (rest : List Lexeme) → ends place rest ≡ true → part (text f ++ rest) ≡ Some (f, rest)
 
@@ -178,6 +178,6 @@ read_again : (f : Formula) → IsReadAgain f
 read_again = ind-Formula IsReadAgain (λ x y is budget place rest le fit deep e.
     rw (text_of x) (subst IsLayerRead is (step_again y) budget place rest le (rw (stands_of x place) at fit) (omega (arith, deep, depth_of x)) e))
 
--- a formula is read from its text, if the tokens that follow can't continue it
+-- a formula with `IsWrittenFormula` is read from its text, if the tokens that follow can't continue it
 pub formula_again : (f : Formula) (rest : List Lexeme) → IsWrittenFormula f → ends 4 rest ≡ true → formula_at (text f ++ rest) ≡ Some (f, rest)
 formula_again f rest is e = rw (read_again f 64 4 rest (omega arith) is.grouped is.shallow e, le-leb (tree_depth f) 64 is.shallow) refl

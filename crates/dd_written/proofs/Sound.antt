@@ -110,7 +110,7 @@ module _ (j : Join) (part : Reader Formula) (place : ℕ) (ranked : join_rank j 
     | inr e ↦ rw e (t.0, λ p le. t.1 p (omega (arith, le)))
   ])
 
--- the sign that belongs to each place from 1 to 4 has that place as its rank
+-- for each place from 1 to 4, the sign that `join_at` gives has this place as its rank
 pub rank_join : (place : ℕ) → place < 4 → join_rank (join_at (suc place)) ≡ suc place
 rank_join zero lt = refl
 rank_join (suc zero) lt = refl

@@ -66,8 +66,9 @@ join_rank Join.Or = 2
 join_rank Join.Implies = 3
 join_rank Join.Iff = 4
 
--- Whether a formula may stand at a place without parentheses, given the same of its parts. Each part must be able to stand at the part's own place.
--- A quantifier must have at least one ball. A chain must have at least two parts, and it may stand only at the rank of its sign and at looser places.
+-- Whether a formula may stand at a place without parentheses, given the places at which its parts may stand. Each part must be able to stand at the
+-- part's own place. A quantifier must have at least one ball. A chain must have at least two parts, and it may stand only at the rank of its sign and
+-- at looser places.
 abbrev pub stands_step : Formula-F (ℕ → Bool) → ℕ → Bool
 stands_step (Formula-F.Atom a) place = true
 stands_step (Formula-F.Not f) place = f 0
@@ -78,8 +79,8 @@ stands_step (Formula-F.Chain j fs) place = nat_le (join_rank j) place && nat_le 
 abbrev pub stands : Formula → ℕ → Bool
 stands = fold-Formula (ℕ → Bool) stands_step
 
--- The number of signs above part i, counted from 0, in the tree of a chain of n parts. All `&` count as one sign, and so do all `|`. The other two
--- signs group: `a -> b -> c` is `a -> (b -> c)`, and `a <-> b <-> c` is `(a <-> b) <-> c`.
+-- The number of signs above part i in the tree of a chain of n parts, where the parts are counted from 0. All `&` count as one sign, and so do all
+-- `|`. The other two signs group: `a -> b -> c` is `a -> (b -> c)`, and `a <-> b <-> c` is `(a <-> b) <-> c`.
 abbrev pub signs_over : Join → ℕ → ℕ → ℕ
 signs_over Join.And n i = 1
 signs_over Join.Or n i = 1

@@ -102,7 +102,7 @@ holds_nowhere x g n ok reach suffices =
     let never = never_from_box x g n ok reach suffices in
     record { never = never; configurations = never_in_configuration x g n never; tiles = never_in_tile x g n never }
 
--- if a box contains what the goal reads, so does each larger box; if it also suffices, so does each larger box
+-- if a box contains what the goal reads, so does each larger box; if it also suffices, each larger box suffices as well
 pub reaches_more : (g : GoalOf) (n m : ℕ) → n ≤ m → Reaches g n → Reaches g m
 reaches_more (breaks y) n m le reach = λ a node. list_all_weaker (is_box_cell y n) (is_box_cell y m) (λ c h. wider_box y n m c le h) (reads_at y a) (reach a node)
 reaches_more (differ s f g) n m le reach = λ a node.

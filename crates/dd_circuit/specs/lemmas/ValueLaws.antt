@@ -1,5 +1,5 @@
--- For any values of the inputs, exactly one list starts with them and then has one value for each gate, the gate's value: the list `values_from`. The
--- lemmas before this say what a gate's value depends on, and the last ones what one more gate adds to the list.
+-- Let values of the inputs be given. Exactly one list starts with these values and then has the value of each gate: the list `values_from`. The first
+-- lemmas say what a gate's value depends on, and the last ones say what one more gate adds to the list.
 use Rattle.std.proofs.Common.{◌≡◌, ℕ, suc, ◌+◌, ◌<◌, ◌≤◌, Bool, true, false, List, [], ◌∷◌, ◌++◌, length, refl, ap, sym, ◌∙◌, arith, get_or, take, length-append, append_assoc}
 use Rattle.std.proofs.lemmas.Bool.{and_parts}
 use Rattle.std.proofs.lemmas.List.{append-nil, take_more, take_at, take_all, length-take-le, get_or-take, get_or_append_left}
@@ -124,7 +124,7 @@ pub values_only : (circuit : Network) (inputs values : List Bool) (gs : List Gat
 values_only circuit inputs values gs i ok same all is others are =
     AreValues-unique circuit inputs others (rw same at ok) are ∙ sym (is ∙ ap (values_from inputs) (take_all i gs all ∙ same))
 
--- once the gates before index i have their values, so have the members of the gate at index i
+-- once the inputs and the gates before index i have values, the variables of the members of the gate at index i have values too
 pub gate_here : (n : ℕ) (inputs vs : List Bool) (gs : List Gate) (i : ℕ) (g : Gate) → length inputs ≡ n → AreGates n gs → i < length gs →
     vs ≡ values_from inputs (take i gs) → g ≡ get_or gs i g → IsGate (length vs) g
 gate_here n inputs vs gs i g full ok within is here =

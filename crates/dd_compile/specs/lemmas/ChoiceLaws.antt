@@ -97,11 +97,12 @@ gates_say set m j (suc k) among (suc i) x ok is =
     let at : (j + 1) + i ≡ j + suc i = omega arith in
     gates_say set (suc m) (j + 1) k among i x later is ∙ ap (λ s. list_any (signal_value set) (among s)) at
 
--- the signals of new variables: how many there are, and that they are in range
+-- how many signals of new variables there are
 pub fresh_length : (n k : ℕ) → length (fresh n k) ≡ k
 fresh_length n zero = refl
 fresh_length n (suc k) = ap suc (fresh_length (suc n) k)
 
+-- the signals of new variables are in range
 pub fresh_in_range : (n k m : ℕ) → n + k ≤ m → All (IsSignal m) (fresh n k)
 fresh_in_range n zero m h i d within = absurd (omega arith)
 fresh_in_range n (suc k) m h zero d within = (omega arith, omega (arith, h))

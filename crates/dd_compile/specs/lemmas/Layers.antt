@@ -1,5 +1,5 @@
--- Conjunctions, disjunctions and equivalences: their gates, the numbers of their gates and instances, and whether their leaves have their wires, from
--- those of their parts.
+-- How the gates of a conjunction, a disjunction or an equivalence are made from those of its parts. The numbers of its gates and instances, and
+-- whether its leaves have their wires, follow from its parts too.
 use Rattle.std.proofs.Common.{◌≡◌, ◌≤◌, ◌<◌, ◌+◌, ◌*◌, ℕ, zero, suc, get_or, Bool, true, List, [], ◌∷◌, ◌++◌, map, length, refl, ap, sym, ◌∙◌, arith}
 use Rattle.std.proofs.lemmas.{Bool.and_parts, Bool.leb-true, Bool.le-leb, List.Folds.list_all-map}
 use Rattle.std.specs.Prelude.{◌&&◌, Option, Some, None, nat_le}

@@ -1,4 +1,4 @@
--- The gates of an automaton's value, from those of the automaton's parts, and a bound on the number of the gates.
+-- How the gates of an automaton's value are made from those of its parts' values, and a bound on the number of these gates.
 use Rattle.std.proofs.Common.{◌≡◌, ◌≤◌, ℕ, ◌+◌, List, [], ◌∷◌, map, length, ap, sym, ◌∙◌, arith, length-append}
 use Rattle.dd_lattice.specs.{Cells.shifted, InOrder.in_order, Place.Place, declared.position.Cell.Cell}
 use Rattle.dd_expansion.specs.Leaves.{total}
@@ -36,10 +36,11 @@ gated_counts k =
     ∙ (ap (λ (x : Counted). counted_step (Automaton-F.Composed x (gated k g).counts)) first
     ∙ (ap (λ (x : Counted). counted_step (Automaton-F.Composed (counted f) x)) second ∙ sym (counted_composed f g))))
 
--- the gates of each of the two forms of an automaton: given by cases, and composed
+-- the gates of the value of an automaton that is given by cases
 pub made_given : (k : ℕ) (c : Cases) (w : Wiring) (at : Cell) (n : ℕ) → value_made k (v.Given c) w at n ≡ given_made k c w at n
 made_given k c w at n = ap (λ (x : Gated). x.made w at n) (gated_given k c)
 
+-- the gates of the value of a composition
 pub made_composed : (k : ℕ) (f g : Automaton) (w : Wiring) (at : Cell) (n : ℕ) → value_made k (v.Composed f g) w at n ≡ composed_made (cells_of f at.node) (value_made k f) (value_made k g) w at n
 made_composed k f g w at n =
     ap (λ (x : Gated). x.made w at n) (gated_composed k f g)

@@ -19,8 +19,9 @@ grown-append cnf gs hs =
 pub grown-nil : (cnf : ClauseList) → grown cnf [] ≡ cnf
 grown-nil cnf = same_list (grown cnf []) cnf.variables cnf.clauses (omega arith) (append-nil cnf.clauses)
 
--- The loop began with the clause list `start`. What it has made so far, `now` and `signals`, followed by what is left to be made for the numbers from
--- w to end - 1, is the whole. The signals so far are over the variables of `now`, which include those of `start`.
+-- The loop began with the clause list `start`, and has made `now` and `signals` so far. If what is left to be made for the numbers from w to end - 1
+-- is added to these, the result is what the whole loop makes from `start`. The signals so far are over the variables of `now`, which include those of
+-- `start`.
 pub record Left (make : ℕ → Making) (w end : ℕ) (start now : ClauseList) (signals : List Signal) : Type 0 where
   pub clauses : grown now (joined (map make (range_to w end)) now.variables).gates ≡ grown start (joined (map make (range_with_len 0 end)) start.variables).gates
   pub made : signals ++ (joined (map make (range_to w end)) now.variables).signals ≡ (joined (map make (range_with_len 0 end)) start.variables).signals
@@ -61,7 +62,7 @@ left_ends make w end start now signals left past =
       sym (append-nil signals) ∙ (ap (λ r. signals ++ (joined (map make r) now.variables).signals) (sym none) ∙ left.made),
     )
 
--- what is made next is a part of the whole, so its variables are within the bound that holds for the whole
+-- what is made next is a part of what the whole loop makes, so a bound on the number of variables for the whole loop holds for this part, too
 pub left_few : (make : ℕ → Making) (w end : ℕ) (start now : ClauseList) (signals : List Signal) (most : ℕ) → Left make w end start now signals → w < end →
     (grown start (joined (map make (range_with_len 0 end)) start.variables).gates).variables ≤ most → (grown now (make w now.variables).gates).variables ≤ most
 left_few make w end start now signals most left within few =
@@ -73,7 +74,7 @@ left_few make w end start now signals most left within few =
     omega (arith, all, e, few)
 
 -- Like `Left`, for the loop over the rows of the cells, before the row of the cell k is made. The loop keeps only one row of signals: `before`, the
--- last one made. The signals of the whole are those of the last row of all.
+-- last one made. The signals that the whole loop makes are those of the last cell's row.
 pub record RowsLeft (ws : List ℕ) (below k end : ℕ) (start now : ClauseList) (before : List Signal) : Type 0 where
   pub clauses : grown now (rows ws below (end - k) k before now.variables).gates ≡ grown start (rows ws below end 0 [] start.variables).gates
   pub made : (rows ws below (end - k) k before now.variables).signals ≡ (rows ws below end 0 [] start.variables).signals
@@ -107,7 +108,8 @@ rows_few ws below k end start now before most left within few =
     let e = length-append first.gates rest.gates in
     omega (arith, all, e, few)
 
--- The member for a symbol that doesn't weigh enough alone. In `member_none` the row before has no signal at t - w, and in `member_some` it has one.
+-- The member for a symbol that doesn't weigh more than t alone. In `member_none` the row before has no signal at t - w, and in `member_some` it has
+-- one.
 pub member_none : (from : Signal) (w t : ℕ) (before : List Signal) (n : ℕ) → w ≤ t → slice_get before (t - w) ≡ None → member from w t before n ≡ making [] []
 member_none from w t before n h is = ap (λ b. member_by from b (slice_get before (t - w)) n) (le-ltb t w h) ∙ ap (λ o. member_by from false o n) is
 

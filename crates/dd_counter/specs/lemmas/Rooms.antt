@@ -1,5 +1,6 @@
--- Facts about tori and living configurations. A torus has at least one cell. Each symbol of a living configuration has a weight. If `weight_count` is
--- within a limit for the number of cells times the greatest weight of a symbol, it is within this limit for the weight of each living configuration.
+-- Facts about tori and living configurations. A torus has at least one cell. Each symbol of a living configuration has a weight. Suppose that
+-- `weight_count` is within a limit if the bound on the weight is the number of cells times the greatest weight of a symbol. Then it is within this
+-- limit if the bound on the weight is the weight of a living configuration.
 use Rattle.std.proofs.Common.{◌≡◌, ℕ, ◌*◌, ◌<◌, ◌≤◌, List, length, ap, sym, subst, arith}
 use Rattle.std.proofs.lemmas.Nat.{mul-le}
 use Rattle.std.specs.List.{All}

@@ -1,4 +1,4 @@
--- What the search for a lighter configuration returns.
+-- What the search for a lighter configuration returns. A configuration is light if its weight is below a bound, or the bound is 0.
 use Rattle.std.specs.Prelude.{ℕ, List}
 use Rattle.dd_pattern.specs.{declared.periods.Periods.Periods, Tile.Tile}
 use Rattle.dd_formula.specs.LocalRule.{LocalRule}

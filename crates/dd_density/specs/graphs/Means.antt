@@ -1,5 +1,5 @@
--- The density for a least mean. The mean of a closed walk is its weight divided by its number of edges. The density is the mean divided by the
--- number of positions in a slice.
+-- The density for a least mean. The mean of a closed walk is its weight divided by its number of edges. The density is the mean divided by `volume`,
+-- the number of positions in a slice.
 use Rattle.std.specs.{Prelude.◌≡◌, Prelude.ℕ, Prelude.◌*◌, Prelude.◌<◌, Prelude.◌≤◌, Prelude.◌^◌, Prelude.List, Prelude.ℤ, List.All}
 use Rattle.dd_values.specs.Bounds.{most_number}
 use Rattle.dd_transfer.specs.Certificates.{IsInLowestTerms}
@@ -8,8 +8,8 @@ use Rattle.dd_density.specs.declared.answer.Density.{Density}
 use Rattle.dd_density.specs.declared.answer.Density.TheVariants.{Least, Empty}
 use Rattle.dd_meancycle.specs.declared.least.Mean.TheVariants as mean
 
--- For the mean m / l, the numbers m and l * volume are small enough for an output, and l * volume isn't 0. These are the terms of the mean divided
--- by `volume`. If there is no closed walk, nothing is required.
+-- For the mean m / l, the numbers m and l * volume are small enough for an output, and l * volume isn't 0. The fraction m / (l * volume) is the mean
+-- divided by `volume`. If there is no closed walk, nothing is required.
 abbrev pub IsMeanOver : ℕ → Mean → Type 0
 IsMeanOver volume (mean.Least m l cycle ps) = (0 < l * volume) × (l * volume ≤ most_number) × (m ≤ most_number)
 IsMeanOver volume (mean.NoCycle ranks) = Unit {0}

@@ -16,7 +16,7 @@ use Rattle.dd_numbered.specs.{declared.numbered.Numbered.Numbered, Numbered.hold
 pub look_below : (n : ℕ) (cs : List Cell) (ss : List ℕ) → All (λ s. s < n) ss → HasSymbolsBelow n (filling_look (filled cs ss))
 look_below n cs ss below c = below_at n ss below (position_or_len (λ d. is_eq (cell_cmp d c)) cs)
 
--- at each position v, the expansion, with its cells taken relative to v, is true exactly when the rule is true
+-- at each position v, the expansion, with its cells taken relative to v, is true exactly when the rule is true at the node a of v
 abbrev pub SaysTruth : LocalRule → ℕ → Expanded → Type 0
 SaysTruth r a e = (look : Look) → HasSymbolsBelow r.symbols look → (v : Place) → holds e (λ c. look (shifted v c)) ≡ is_true r (cell v a) look
 
@@ -26,8 +26,8 @@ says_at_origin r a e ss truth below =
     let same : (λ (c : Cell). look (shifted (place (pos 0) (pos 0) (pos 0)) c)) ≡ look = fun_ext (λ c. ap look (shifted_by_origin c)) in
     ap (holds e) (sym same) ∙ truth look (look_below r.symbols (cells_at r a) ss below) (place (pos 0) (pos 0) (pos 0))
 
--- Let the expansion say what the rule says. Let the numbers of the numbered formula stand for the cells that are read, in order. If the numbered
--- formula then says what the expansion says, it says what the rule says.
+-- Suppose that the expansion is true exactly when the rule is true. Suppose also that the numbered formula is true of symbols exactly when the
+-- expansion is true with these symbols at the cells that are read, in order. Then the numbered formula is true exactly when the rule is true.
 pub says_rule : (r : LocalRule) (a : ℕ) (e : Numbered) (x : Expanded) (cs : List Cell) → SaysTruth r a x → cs ≡ cells_at r a →
     ((ss : List ℕ) → holds_in e ss ≡ holds x (read_by (by_rank cs) ss)) → SaysRule r a e
 says_rule r a e x cs truth is says ss below = says ss ∙ (ap (λ ds. holds x (filling_look (filled ds ss))) is ∙ says_at_origin r a x ss truth below)

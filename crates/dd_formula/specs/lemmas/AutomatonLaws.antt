@@ -18,22 +18,27 @@ use Rattle.dd_formula.specs.declared.automaton.{Automaton.TheOpen.Automaton-F, C
 use Rattle.dd_values.specs.lemmas.Booleans.{or_none}
 use Rattle.dd_formula.specs.declared.automaton.Automaton.TheVariants as v
 
--- what `counted` and `automaton_fits` say of an automaton by cases, and what these and `checks` say of a composition
+-- the counts of an automaton by cases
 pub counted_given : (c : Cases) → counted (v.Given c) ≡ counted_step (Automaton-F.Given c)
 counted_given c = ap counted (sym (v.rolls-Given c)) ∙ fold-roll-Automaton Counted counted_step (Automaton-F.Given c)
 
+-- the counts of a composition, from the counts of its parts
 pub counted_composed : (f g : Automaton) → counted (v.Composed f g) ≡ counted_step (Automaton-F.Composed (counted f) (counted g))
 counted_composed f g = ap counted (sym (v.rolls-Composed f g)) ∙ fold-roll-Automaton Counted counted_step (Automaton-F.Composed f g)
 
+-- an automaton by cases fits a setting exactly when its cases do
 pub fits_given : (s : CommonNumbers) (c : Cases) → automaton_fits s (v.Given c) ≡ cases_fit s c.cases c.otherwise
 fits_given s c = ap (automaton_fits s) (sym (v.rolls-Given c)) ∙ fold-roll-Automaton Bool (automaton_fits_step s) (Automaton-F.Given c)
 
+-- a composition fits a setting exactly when both parts do
 pub fits_composed : (s : CommonNumbers) (f g : Automaton) → automaton_fits s (v.Composed f g) ≡ (automaton_fits s f && automaton_fits s g)
 fits_composed s f g = ap (automaton_fits s) (sym (v.rolls-Composed f g)) ∙ fold-roll-Automaton Bool (automaton_fits_step s) (Automaton-F.Composed f g)
 
+-- the counts of an automaton, and whether it and all its parts are within the limits
 abbrev pub checks : ℕ → Automaton → Checked
 checks n = fold-Automaton Checked (limits_step n)
 
+-- what `checks` gives for a composition, from what it gives for the parts
 checks_composed : (n : ℕ) (f g : Automaton) → checks n (v.Composed f g) ≡ limits_step n (Automaton-F.Composed (checks n f) (checks n g))
 checks_composed n f g = ap (checks n) (sym (v.rolls-Composed f g)) ∙ fold-roll-Automaton Checked (limits_step n) (Automaton-F.Composed f g)
 
@@ -64,7 +69,7 @@ within_composed n f g =
     ∙ (ap (λ (c : Counted). parts && keeps_limits n (counted_step (Automaton-F.Composed (counted f) c))) (counts_those n g)
     ∙ ap (λ (c : Counted). parts && keeps_limits n c) (sym (counted_composed f g))))
 
--- the parts of a well-formed composition are well formed
+-- the outer part of a well-formed composition is well formed
 pub outer_part : (s : CommonNumbers) (f g : Automaton) → IsAutomaton s (v.Composed f g) → IsAutomaton s f
 outer_part s f g h = record {
   some = h.some;
@@ -72,6 +77,7 @@ outer_part s f g h = record {
   within = (and_parts _ _ (and_parts _ _ (sym (within_composed s.nodes f g) ∙ h.within)).0).0;
 }
 
+-- the inner part of a well-formed composition is well formed
 pub inner_part : (s : CommonNumbers) (f g : Automaton) → IsAutomaton s (v.Composed f g) → IsAutomaton s g
 inner_part s f g h = record {
   some = h.some;
@@ -232,20 +238,24 @@ passes_both p xs ys h h' = list_all-append p xs ys ∙ and_from (list_all p xs) 
 pub node_at : (s : CommonNumbers) (cs : List Cell) (i : ℕ) (c : Cell) → list_all (is_cell_of s) cs ≡ true → i < length cs → c ≡ get_or cs i c → c.node < s.nodes
 node_at s cs i c h below is = ltb-true c.node s.nodes (and_parts (is_flat s.dimension c.position) (nat_lt c.node s.nodes) (passes_at (is_cell_of s) cs i c h below is)).1
 
--- whether an automaton has rules, and how many nodes they have
+-- an automaton by cases has rules exactly when it has cases
 has_rules_given : (c : Cases) → has_rules (v.Given c) ≡ nat_lt 0 (length c.cases)
 has_rules_given c = ap has_rules (sym (v.rolls-Given c)) ∙ fold-roll-Automaton Bool has_rules_step (Automaton-F.Given c)
 
+-- a composition has rules exactly when at least one of its parts does
 pub has_rules_composed : (f g : Automaton) → has_rules (v.Composed f g) ≡ (has_rules f || has_rules g)
 has_rules_composed f g = ap has_rules (sym (v.rolls-Composed f g)) ∙ fold-roll-Automaton Bool has_rules_step (Automaton-F.Composed f g)
 
+-- the number of nodes of the rules of an automaton by cases is that of its cases' rules
 pub nodes_given : (c : Cases) (r : Option ℕ) → MatchOption r (length c.cases ≡ 0) (λ n. (s : CommonNumbers) → cases_fit s c.cases c.otherwise ≡ true → s.nodes ≡ n) → IsNodesOf (v.Given c) r
 nodes_given c None h = has_rules_given c ∙ ap (nat_lt 0) h
 nodes_given c (Some n) h = λ s fit. h s (sym (fits_given s c) ∙ fit)
 
+-- if each setting that the outer part fits has n nodes, so has each setting that the composition fits
 pub nodes_outer : (f g : Automaton) (n : ℕ) → ((s : CommonNumbers) → automaton_fits s f ≡ true → s.nodes ≡ n) → (s : CommonNumbers) → automaton_fits s (v.Composed f g) ≡ true → s.nodes ≡ n
 nodes_outer f g n h s fit = h s (and_parts (automaton_fits s f) (automaton_fits s g) (sym (fits_composed s f g) ∙ fit)).0
 
+-- if the outer part has no rules, the number of nodes of the composition's rules is that of the inner part's rules
 pub nodes_inner : (f g : Automaton) (r : Option ℕ) → has_rules f ≡ false → IsNodesOf g r → IsNodesOf (v.Composed f g) r
 nodes_inner f g None none h = has_rules_composed f g ∙ (ap (λ b. b || has_rules g) none ∙ h)
 nodes_inner f g (Some n) none h = λ s fit. h s (and_parts (automaton_fits s f) (automaton_fits s g) (sym (fits_composed s f g) ∙ fit)).1

@@ -11,8 +11,9 @@ use Rattle.dd_formula.specs.{ByCases.numbers_over, ByCases.IsCasesRefusal, decla
 use Rattle.dd_formula.specs.declared.fault.RuleFault.TheVariants.{Reach, Instances, Depth, Memory}
 use Rattle.dd_formula.specs.lemmas.CompositionLaws.{range_fails}
 
--- Suppose that an automaton has at least as many instances as a rule, reads too far away wherever the rule does, and is within
--- the limit on instances if the rule is. Then the automaton is refused for each fault for which the rule is refused.
+-- Suppose that at each node an automaton has at least as many instances as a rule, and reads too far away if the rule does. Suppose
+-- also that the automaton is within the limit on instances if the rule is. Then the automaton is refused for each fault for which
+-- the rule is refused.
 module _ (r : LocalRule) (f : Counted) (large : (a : ℕ) → instances (expansion_at r a) ≤ f.instances a) (far : (a : ℕ) → list_all is_near (reads_at r a) ≡ false → list_all is_near (f.reads a) ≡ false) where
   pub refused : (e : RuleFault) → (IsSmall r → is_few r.nodes f ≡ true) → IsRuleRefusal r e → IsCasesRefusal r.nodes f e
   refused Instances few h = range_fails (λ a. nat_le (f.instances a) most_instances) r.nodes h.node h.exists (lt-leb _ _ (omega (arith, h.many, large h.node)))

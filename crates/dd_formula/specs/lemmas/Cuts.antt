@@ -8,13 +8,14 @@ use Rattle.dd_expansion.specs.{Leaves.total, lemmas.Layers.total-map}
 use Rattle.dd_formula.specs.Counts.{cut}
 
 module _ {X : Type 0} where
-  -- joined lists and sums, with one more element
+  -- a joined list, with one more element
   pub flat_more : {A : Type 0} (f : X → List A) (xs : List X) (i : ℕ) (x : X) → i < length xs → x ≡ get_or xs i x → flat_map f (take (i + 1) xs) ≡ flat_map f (take i xs) ++ f x
   flat_more f xs i x below is =
       ap (flat_map f) (take_more xs i x below)
       ∙ (flat_map-append f (take i xs) (get_or xs i x ∷ [])
       ∙ (ap (λ ys. flat_map f (take i xs) ++ ys) (append-nil (f (get_or xs i x))) ∙ ap (λ y. flat_map f (take i xs) ++ f y) (sym is)))
 
+  -- a sum, with one more element
   pub total_more : (f : X → ℕ) (xs : List X) (i : ℕ) (x : X) → i < length xs → x ≡ get_or xs i x → total (map f (take (i + 1) xs)) ≡ total (map f (take i xs)) + f x
   total_more f xs i x below is =
       total-map f (take (i + 1) xs)

@@ -41,13 +41,14 @@ all_numbers p m (suc n) h = and_from _ _ (h m (omega arith)) (all_numbers p (m +
 nodes_within : (r : LocalRule) (k : ℕ) → nat_le (reach r) k ≡ list_all (λ a. list_all (is_within k) (cells_at r a)) (range_with_len 0 r.nodes)
 nodes_within r k = all_within k (all_cells r) ∙ list_all-flat_map (is_within k) (cells_at r) (range_with_len 0 r.nodes)
 
--- a rule whose reach is at most k reads only cells that lie at most k away, and conversely
+-- a rule whose reach is at most k reads only cells that lie at most k away
 pub reads_within : (r : LocalRule) (k a : ℕ) → reach r ≤ k → a < r.nodes → list_all (is_within k) (reads_at r a) ≡ true
 reads_within r k a far node =
     let all = sym (nodes_within r k) ∙ le-leb (reach r) k far in
     sym (list_all-in_order (is_within k) (reads_at r a))
     ∙ range_at (λ n. list_all (is_within k) (cells_at r n)) 0 r.nodes a all (omega arith) (omega (arith, node))
 
+-- a rule that at each node reads only cells that lie at most k away has a reach of at most k
 pub reach_within : (r : LocalRule) (k : ℕ) → ((a : ℕ) → a < r.nodes → list_all (is_within k) (reads_at r a) ≡ true) → reach r ≤ k
 reach_within r k all =
     leb-true (reach r) k (nodes_within r k

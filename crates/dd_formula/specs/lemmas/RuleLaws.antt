@@ -25,8 +25,8 @@ equal_symbols None b h = absurd (cc)
 equal_symbols (Some x) None h = absurd (cc)
 equal_symbols (Some x) (Some y) h = ap Some (sym (eqb-true y x h))
 
--- Whether a rule is true depends only on the symbols of the cells that it reads. If one look-up gives these cells, moved by u, the same symbols as
--- the other gives them moved by v, then the rule is true at u under the one exactly when it is true at v under the other.
+-- Whether a rule is true depends only on the symbols of the cells that it reads. If `one` gives these cells, moved by u, the same symbols as `other`
+-- gives them moved by v, then the rule is true at u under `one` exactly when it is true at v under `other`.
 pub truth_by_reads : (r : LocalRule) (a : ℕ) (u v : Place) (one other : Look) → list_all (λ d. are_equal (one (shifted u d)) (other (shifted v d))) (reads_at r a) ≡ true →
     is_true r (cell u a) one ≡ is_true r (cell v a) other
 truth_by_reads r a u v one other same =

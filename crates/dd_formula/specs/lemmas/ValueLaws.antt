@@ -20,11 +20,12 @@ use Rattle.dd_formula.specs.lemmas.AutomatonLaws.{counted_given, counted_compose
 use Rattle.dd_values.specs.lemmas.Numbers.{plus_zero}
 use Rattle.dd_formula.specs.declared.automaton.Automaton.TheVariants as v
 
--- the value of an automaton by cases, and that of a composition
+-- the value of an automaton by cases
 pub value_given : (c : Cases) (look : Look) (at : Cell) → value (v.Given c) look at ≡ first_case c.cases c.otherwise look at
 value_given c look at =
     ap (λ (g : Valuation). g look at) (ap value (sym (v.rolls-Given c)) ∙ fold-roll-Automaton Valuation value_step (Automaton-F.Given c))
 
+-- the value of a composition
 pub value_composed : (f g : Automaton) (look : Look) (at : Cell) → value (v.Composed f g) look at ≡ value f (λ c. Some (value g look c)) at
 value_composed f g look at =
     ap (λ (h : Valuation). h look at) (ap value (sym (v.rolls-Composed f g)) ∙ fold-roll-Automaton Valuation value_step (Automaton-F.Composed f g))
@@ -48,12 +49,12 @@ shifted_by_none d = ap (λ p. cell p d.node) (moved_by_none d.position)
 pub equal_values : (x y : ℕ) → x ≡ y → are_equal (Some x) (Some y) ≡ true
 equal_values x y e = eq-eqb y x (sym e)
 
--- the first look-up gives the cell, moved by u, the same symbol as the other gives it moved by w
+-- `one` gives the cell, moved by u, the same symbol as `other` gives it moved by w
 abbrev alike : Place → Place → Look → Look → Cell → Bool
 alike u w one other d = are_equal (one (shifted u d)) (other (shifted w d))
 
--- The value of an automaton depends only on the symbols of the cells that it reads. If one look-up gives these cells, moved by u, the same symbols as
--- the other gives them moved by w, then the automaton has the same value at u under the one as at w under the other.
+-- The value of an automaton depends only on the symbols of the cells that it reads. If `one` gives these cells, moved by u, the same symbols as `other`
+-- gives them moved by w, then the automaton has the same value at u under `one` as at w under `other`.
 abbrev Depends : Automaton → Type 0
 Depends f = (a : ℕ) (u w : Place) (one other : Look) → list_all (alike u w one other) ((counted f).reads a) ≡ true → value f one (cell u a) ≡ value f other (cell w a)
 
@@ -78,8 +79,8 @@ by_cases (case ∷ cases) otherwise a u w one other h =
     ap (λ b. cond b case.1 (first_case cases otherwise one (cell u a))) (truth_by_reads case.0 a u w one other both.0)
     ∙ ap (λ n. cond (is_true case.0 (cell w a) other) case.1 n) (by_cases cases otherwise a u w one other both.1)
 
--- Let g be the second automaton of a composition, and c a cell that the first one reads. If one look-up gives the cells that g reads at c, moved by
--- u, the same symbols as the other gives them moved by w, then g has the same value at c moved by u under the one as at c moved by w under the other.
+-- Let g be the second automaton of a composition, and c a cell that the first one reads. If `one` gives the cells that g reads at c, moved by u, the
+-- same symbols as `other` gives them moved by w, then the value of g under `one` at c moved by u is its value under `other` at c moved by w.
 at_read : (g : Automaton) → Depends g → (u w : Place) (one other : Look) (c : Cell) → list_all (alike u w one other) (map (shifted c.position) ((counted g).reads c.node)) ≡ true →
     are_equal (Some (value g one (shifted u c))) (Some (value g other (shifted w c))) ≡ true
 at_read g depends u w one other c h =
@@ -183,12 +184,12 @@ rule_symbols s r has = eqb-true r.symbols s.symbols (and_parts (r.dimension == s
 pub told : (r : LocalRule) (at : Cell) (look : Look) (answer : Option Bool) → is_given r at look ≡ true → answer ≡ cond (is_given r at look) (Some (is_true r at look)) None → answer ≡ Some (is_true r at look)
 told r at look answer given said = said ∙ ap (λ b. cond b (Some (is_true r at look)) None) given
 
--- in each setting in which an automaton is well formed, each cell that it reads has a position in Z^d and one of the setting's
--- nodes
+-- `IsPlaced` holds of an automaton by cases if `CasesArePlaced` holds of its cases
 pub placed_given : (c : Cases) → CasesArePlaced c → IsPlaced (v.Given c)
 placed_given c h s formed a below =
     ap (λ (k : Counted). list_all (is_cell_of s) (k.reads a)) (counted_given c) ∙ h s (sym (fits_given s c) ∙ formed.fits) a below
 
+-- `IsPlaced` holds of a composition if it holds of both parts
 pub placed_composed : (f g : Automaton) → IsPlaced f → IsPlaced g → IsPlaced (v.Composed f g)
 placed_composed f g outer inner s formed a below =
     let there = λ (c : Cell). map (shifted c.position) ((counted g).reads c.node) in

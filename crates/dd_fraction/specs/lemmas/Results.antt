@@ -1,4 +1,4 @@
--- What the calls return: a result is in lowest terms and bounded, and `None` is returned where a number doesn't fit.
+-- What the calls return: a result is in lowest terms and bounded, and `None` is returned if a number doesn't fit.
 use Rattle.std.proofs.Common.{◌≡◌, ℕ, zero, suc, ◌*◌, ◌/◌, ◌%◌, ◌^◌, ◌<◌, ◌≤◌, refl, sym, ap, subst, ◌∙◌, arith, max, Some, None, Bool, true, false, cond}
 use Rattle.std.proofs.lemmas.{Bool.ltb-true, Int.ints, Nat.mod_below}
 use Rattle.std.proofs.{lemmas.Nat.Gcd.same_from_IsGcd, lemmas.Nat.Gcd.IsGcd-swap, Math.Nat.div-le_self}
@@ -137,12 +137,13 @@ crossed a b l r e f =
     let y = bounded_some (b.num *ℤ pos a.den) r f in
     record { left = x.0; right = y.0; both = λ i. x.1 i +ℤ y.1 i }
 
--- if a cross product doesn't fit, `checked_sum` is None
+-- if the first cross product doesn't fit, `checked_sum` is None
 pub sum_none_first : (a b : Exact) → None ≡ bounded (a.num *ℤ pos b.den) → None ≡ checked_sum a b
 sum_none_first a b e =
     let x = refused (is_bounded (a.num *ℤ pos b.den)) (a.num *ℤ pos b.den) e in
     rw x refl
 
+-- if the second cross product doesn't fit, `checked_sum` is None
 pub sum_none_second : (a b : Exact) (l : ℤ) → Some l ≡ bounded (a.num *ℤ pos b.den)
     → None ≡ bounded (b.num *ℤ pos a.den) → None ≡ checked_sum a b
 sum_none_second a b l e f =

@@ -38,7 +38,8 @@ same_symbol x o t is h = elim (cases_Bool (x == t)) [
   | inr other ↦ absurd (h (λ equal. let both : Some x ≡ Some t = equal ∙ is in let one : x ≡ t = cc in absurd (let none : true ≡ false = sym (eq-eqb x t one) ∙ other in cc)))
 ]
 
--- if each cell of a position has one of the first k symbols, and the composition changes none of them, it gives each of them back
+-- if each cell of a position has one of the first k symbols, and the composition changes none of these symbols, then it gives each cell its own
+-- symbol
 pub gives_back : (n k : ℕ) (f g : Automaton) (look : Look) (v : Place) → HasSymbols n k look v → (Changes n f g look v → ⊥) → AtEachNode n (GivesBackAt f g look) v
 gives_back n k f g look v has unchanged a below =
     same_symbol (value f (image g look) (cell v a)) (look (cell v a)) (has a below).0 (has a below).2 (λ changed. unchanged (a, below, changed))

@@ -1,5 +1,5 @@
--- Whether each item that a filter keeps passes a test, and whether some item does. Also whether each number below a bound passes a test that only
--- one of them can fail, and whether some number passes a test that only one of them can pass.
+-- Whether all items that a filter keeps pass a test, and whether at least one of them does. Also whether all numbers below a bound pass a test that
+-- only one of them can fail, and whether some number below the bound passes a test that only one of them can pass.
 use Rattle.std.proofs.Common.{◌≡◌, ◌<◌, ℕ, Bool, true, false, List, [], ◌∷◌, length, get_or, refl, ap, sym, ◌∙◌, arith, eq-eqb, inl, inr}
 use Rattle.std.proofs.lemmas.{Bool.cases_Bool, Bool.eqb-true, List.Folds.list_any_at}
 use Rattle.std.proofs.lemmas.List.FromFn.{length-range_with_len, get_or-range_with_len}

@@ -27,7 +27,7 @@ abbrev pub IsMean : List Edge → ℕ → EdgeMean → Type 0
 IsMean edges n (Least m l cycle potentials) = IsLeastMean edges n m l cycle.items potentials.items
 IsMean edges n (NoCycle ranks) = (length ranks.items ≡ n) × AreEdgeRanks edges ranks.items
 
--- each potential of the result, if it has potentials, is small enough for an output
+-- if the result has potentials, each of them is at most `most_number`
 abbrev pub IsSmallMean : EdgeMean → Type 0
 IsSmallMean (Least m l cycle potentials) = All (λ p. p ≤ most_number) potentials.items
 IsSmallMean (NoCycle ranks) = Unit {0}

@@ -1,7 +1,6 @@
--- What is read off the table of least weights. The levels of the table are its rows, one for each length. A longest walk has
--- `last` edges, the greatest length in the table. A rise of a state goes from its entry in a level k below the last level to its
--- entry in the last level; both entries are weights. The mean of the rise is the second entry less the first, divided by
--- last - k.
+-- What is read off the table of least weights. The levels of the table are its rows, one for each length. Let `last` be the greatest length in the
+-- table. A longest walk is a walk of `last` edges. A rise of a state goes from its entry in a level k below the last level to its entry in the last
+-- level; both entries are weights. The mean of the rise is the second entry less the first, divided by last - k.
 use Rattle.std.specs.Prelude.{◌≡◌, ℕ, suc, ◌∷◌, ◌+◌, ◌-◌, ◌*◌, ◌<◌, ◌≤◌, List, [], length, Option, Some, None, slice_index_or, ◌⊎◌, Bool, true, false, ◌^◌, is_some, ◌&&◌, ◌==◌}
 use Rattle.std.specs.{List.Contains, Int.IsGcd}
 use Rattle.dd_meancycle.specs.declared.{edges.Edge.Edge, rises.Ratio.Ratio, rises.Steep.Steep}
@@ -45,7 +44,7 @@ abbrev pub IsLesser : ℕ → Option ℕ → ℕ → ℕ → ℕ → ℕ → Typ
 IsLesser best None m l run r = r ≡ best
 IsLesser best (Some b) m l run r = (r ≤ best) × (r ≤ l * b + m * run) × ((r ≡ best) ⊎ (r ≡ l * b + m * run))
 
--- whether the entry is a weight, and this weight plus the weight `weight` of an edge is `end`
+-- whether the entry is a weight, and the sum of this weight and `weight`, the weight of an edge, is `end`
 abbrev pub arrives : Option ℕ → ℕ → ℕ → Bool
 arrives None weight end = false
 arrives (Some a) weight end = (a + weight) == end

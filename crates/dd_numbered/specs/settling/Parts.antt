@@ -1,4 +1,4 @@
--- When the first symbols of a list settle whether a leaf is true, whether all of several formulas are true, or whether at least one is.
+-- What it means that the first symbols of a list settle whether a leaf is true, whether all of several formulas are true, or whether at least one is.
 use Rattle.std.specs.{Prelude.ℕ, Prelude.◌≡◌, Prelude.◌++◌, Prelude.Bool, Prelude.List, Prelude.slice_get, List.list_all, List.list_any}
 use Rattle.dd_expansion.specs.Truth.{is_symbol}
 use Rattle.dd_numbered.specs.{declared.numbered.Numbered.Numbered, Numbered.holds_in}

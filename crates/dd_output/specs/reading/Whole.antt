@@ -54,6 +54,6 @@ abbrev pub missing_of : Result Output Stop → List ℕ
 missing_of (Ok o) = []
 missing_of (Err s) = s.missing
 
--- A text that makes a well-formed output when it is appended to what can be read of these bytes.
+-- appended to what can be read of these bytes, this text makes the text of an output
 abbrev pub completion : List ℕ → List ℕ
 completion bytes = missing_of (all_at bytes)

@@ -1,5 +1,5 @@
 -- The cells of the fundamental box of a periodic configuration are numbered by the indices of their symbols. The numbers agree with cell order. The
--- cells at the origin are among them.
+-- cells at the origin are in this box.
 use Rattle.std.proofs.Common.{◌≡◌, ℕ, ◌+◌, ◌*◌, ◌/◌, ◌%◌, ◌<◌, length, ℤ, pos, arith, refl, ap, sym, ◌∙◌}
 use Rattle.std.proofs.lemmas.Nat.{mul-add-lt, mod-mul-add, div-mul-add, div-add-mod', mod_below, div_below}
 use Rattle.std.proofs.lemmas.Int.{ints}
@@ -88,8 +88,8 @@ record Tells (o : Ordering) (a b : ℕ) : Type 0 where
   less : o ≡ Less → a < b
   equal : o ≡ Equal → a ≡ b
 
--- two entries of a table with rows of length w are at row a, column x and at row b, column y: if o tells how the rows compare, and p how the columns
--- do, then `ordering_then o p` tells how the numbers of the entries compare, where the table is numbered row by row
+-- A table has rows of length w, and its entries are numbered row by row. One entry is at row a, column x, and another at row b, column y. If o tells
+-- how the rows compare, and p how the columns compare, then `ordering_then o p` tells how the entries' numbers compare.
 then_tells : (o p : Ordering) (a b x y w : ℕ) → x < w → Tells o a b → Tells p x y → Tells (ordering_then o p) (a * w + x) (b * w + y)
 then_tells Less p a b x y w xw first second =
     record { less = λ h. (let below : a < b = first.less refl in omega (arith, mul-add-lt a w x b below xw)); equal = λ h. absurd (cc) }

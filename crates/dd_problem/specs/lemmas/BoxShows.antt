@@ -37,7 +37,7 @@ box_is_wired x g n rule ok reach =
     (λ k d is. ltb-true d.node x.nodes (and_parts (in_box x.dimension n d.position) (nat_lt d.node x.nodes) (box_cell_at x n k d is).0).1)
     (goal_reads_box x g n ok reach) (box_values x n rule g ok reach)
 
--- a filling of the box is admissible exactly when the premise is true at all places where it fits
+-- a filling of the box is admissible exactly when the premise is true at all places where the premise fits
 holds_from_admissible : (x : LocalRule) (n : ℕ) (look : Look) → IsBoxFilling x n look → Admissible x look → premise_holds (box_layout x n) x look ≡ true
 holds_from_admissible x n look filling ok =
     filter_all (λ d. is_true x d look) (fits_in (box_layout x n) x) (box_cells x n) (λ k d is fit.
@@ -121,7 +121,7 @@ symbols_fit x n look rule filling = record {
       rw at (allowed_from (λ s. rule_allows x c.node s ≡ true) (look c) (filling.allowed c) (filling.domain c ∙ here)));
 }
 
--- from symbols that are read number by number to symbols that are read cell by cell
+-- if symbols are read from an assignment by the cells' numbers (`AreRead`), their look-up is read from it cell by cell (`IsReadFrom`)
 read_by_cells : (set : ℕ → Bool) (x : LocalRule) (n : ℕ) (symbols : List ℕ) → length symbols ≡ length (box_cells x n) → AreRead set x.symbols symbols →
     IsReadFrom set x n (layout_look (box_layout x n) symbols)
 read_by_cells set x n symbols full read c s here below =

@@ -1,4 +1,4 @@
--- The count of a question's clauses bounds the number of its variables, and that of the positions of its box or torus.
+-- The count of a question's clauses bounds the number of its variables and the number of positions of its box or torus.
 use Rattle.std.proofs.Common.{◌≡◌, ℕ, zero, suc, ◌+◌, ◌*◌, ◌/◌, ◌%◌, ◌<◌, ◌≤◌, [], ◌∷◌, map, length, ap, ◌∙◌, arith, length-append}
 use Rattle.std.proofs.{Math.Nat.mul-add, Math.Nat.mul_assoc, lemmas.Nat.mul-le, lemmas.Nat.mod_below, lemmas.Nat.div-add-mod'}
 use Rattle.std.specs.{Prelude.◌-◌, List.filter}

@@ -1,4 +1,4 @@
--- What is said by the gates that tell two values apart, and that these gates are over earlier variables.
+-- What the gates that tell two values apart say. These gates are over earlier variables.
 use Rattle.std.proofs.Common.{◌≡◌, ℕ, zero, suc, ◌+◌, ◌<◌, ◌≤◌, Bool, true, false, List, [], ◌∷◌, ◌++◌, map, length, refl, ap, sym, subst, ◌∙◌, arith, inl, inr, Some, length-append, eq-eqb}
 use Rattle.std.proofs.{Math.Nat.eq-or-lt_of_le, lemmas.Bool.and_parts, lemmas.Bool.Decides.nat_tests, lemmas.List.Elements.All-weaker}
 use Rattle.std.specs.{Prelude.not, Prelude.◌&&◌, Prelude.◌||◌, Prelude.◌==◌, Prelude.slice_get, Bool.beq}
@@ -72,7 +72,7 @@ or_none : (a b : Bool) → b ≡ false → ((true && a) || b) ≡ a
 or_none true b h = refl
 or_none false b h = h
 
--- if the first of two values is one of the symbols, they are apart at some symbol exactly when they are different
+-- if the first of two values is one of the symbols, `each_apart` is true at some symbol exactly when the values are different
 apart_at : (u v j k : ℕ) → j ≤ u → u < j + k → list_any (λ b. b) (each_apart (is_value u j k) (is_value v j k)) ≡ not (u == v)
 apart_at u v j zero low high = absurd (omega arith)
 apart_at u v j (suc k) low high =

@@ -95,7 +95,7 @@ HasItsSymbols always look = Unit {0}
 abbrev pub differ_at : Layout → CommonNumbers → Automaton → Automaton → ℕ → Maker
 differ_at l s f g a = differ_made s.symbols f g l.inputs (cell origin a)
 
--- the parts by what they are about: a place, or `None` for the goal
+-- what the parts are about, one after the other: the places where the premise fits, and then `None` for the goal
 abbrev pub jobs : Layout → LocalRule → List (Option Cell)
 jobs l x = map (λ d. Some d) (filter (fits_in l x) l.places) ++ None ∷ []
 
@@ -165,7 +165,7 @@ job_says set l x g look below within values goal_below tell None wired n le ok =
 abbrev pub premise_holds : Layout → LocalRule → Look → Bool
 premise_holds l x look = list_all (λ d. is_true x d look) (filter (fits_in l x) l.places)
 
--- all parts together say that the premise holds where it fits, and the goal at the origin
+-- all parts together say that the premise is true at all places where it fits, and that the goal holds at the origin
 pub parts_say : (set : ℕ → Bool) (l : Layout) (x : LocalRule) (g : GoalOf) (look : Look) → HasSymbolsBelow x.symbols look → IsNumbered l → GoalWired l x.symbols g → HasItsSymbols g look → InputsTell set l x.symbols look →
     list_all (job_reads l x g) (jobs l x) ≡ true → agrees set (input_count l x) (part_gates (input_count l x) (problem_parts l x g)) ≡ true →
     tests set (input_count l x) (problem_parts l x g) ≡ (premise_holds l x look && goal_holds g look)

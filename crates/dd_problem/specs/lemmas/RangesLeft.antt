@@ -19,7 +19,7 @@ pub range_ends : (w end : ℕ) → end ≤ w → range_to w end ≡ []
 range_ends w end h = let n : end - w ≡ 0 = omega arith in rw n refl
 
 -- One pass of a loop over a range. `now` is the list before this pass, and `new` is the list after it. The list after all passes
--- is `new`, and then what the later passes add.
+-- is `new`, followed by what the later passes add.
 pub left_step : {X : Type 0} (f : ℕ → X) (all now new : List X) (w end : ℕ) → w < end → all ≡ now ++ map f (range_to w end) → new ≡ now ++ f w ∷ [] →
     all ≡ new ++ map f (range_to (w + 1) end)
 left_step f all now new w end h so_far pushed =
@@ -90,7 +90,7 @@ pub none_left_out : (m k n : ℕ) (q : ℕ → Bool) (all now : List (List Liter
 none_left_out m k n q all now is so_far =
     so_far ∙ ap (λ ss. all ++ none_of m k ss) (sym (filter_push q n false is ∙ append-nil (filter q (range_with_len 0 n))))
 
--- the clauses with one more cell
+-- one more cell at the end of the list adds its clauses at the end
 clauses_push : (x : LocalRule) (cells : List Cell) (a : ℕ) (c : Cell) → clauses_from x a (cells ++ c ∷ []) ≡ clauses_from x a cells ++ symbol_clauses x (a + length cells) c.node
 clauses_push x [] a c =
     let e : a ≡ a + 0 = omega arith in

@@ -6,11 +6,11 @@ use Rattle.dd_formula.specs.{Living.Fits, LocalRule.LocalRule}
 use Rattle.dd_boxes.specs.Witnesses.{HasPeriods}
 use Rattle.dd_problem.specs.Symbols.{AreRead, HasOneEach}
 
--- a configuration of the periods has as many symbols as the torus has cells
+-- a configuration with these periods has as many symbols as the torus has cells
 pub size_is : (x : LocalRule) (p : Periods) (t : Tile) → IsTile t → HasPeriods p t → Fits x t → length t.symbols ≡ periods_volume p * x.nodes
 size_is x p t tile has fit = rw (sym has, sym fit.nodes) tile.full
 
--- if the symbols of a configuration of the periods are read from an assignment, exactly one input of each cell is true
+-- if the symbols of a configuration with these periods are read from an assignment, exactly one input of each cell is true
 pub one_each_read : (x : LocalRule) (p : Periods) (set : ℕ → Bool) (t : Tile) → IsTile t → HasPeriods p t → Fits x t → AreRead set x.symbols t.symbols →
     HasOneEach set x.symbols (periods_volume p * x.nodes)
 one_each_read x p set t tile has fit read k below =

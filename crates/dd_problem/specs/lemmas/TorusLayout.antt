@@ -28,7 +28,7 @@ pub torus_is_tile : (x : LocalRule) (periods : Periods) (symbols : List ℕ) →
 torus_is_tile x periods symbols rule ok full =
     record { some_dimension = rule.dimension.0; most_dimension = rule.dimension.1; periods = ok.periods; nodes_some = rule.nodes.0; full = full }
 
--- as many symbols as the torus has cells define a periodic configuration that code can hold
+-- a list of as many symbols as the torus has cells defines a periodic configuration that code can hold
 pub torus_is_periodic : (x : LocalRule) (periods : Periods) (symbols : List ℕ) → IsRule x → AreTorusPeriods x.dimension x.nodes periods → length symbols ≡ torus_size x periods →
     IsPeriodic (torus_of x periods symbols)
 torus_is_periodic x periods symbols rule ok full = record {
@@ -128,7 +128,7 @@ module _ (x : LocalRule) (periods : Periods) (rule : IsRule x) (ok : AreTorusPer
       few : (axis : ℕ) → nat_lt axis x.dimension ≡ false → x.dimension < suc axis
       few axis f = let most : x.dimension ≤ axis = ltb-false _ _ f in omega arith
 
-  -- what is read around a position is also read around this position modulo the periods
+  -- a configuration has the same symbols around a position as around this position modulo the periods
   pub look_periodic : (symbols : List ℕ) (v : Place) (c : Cell) →
       tile_look (torus_of x periods symbols) (shifted (base_of periods v) c) ≡ tile_look (torus_of x periods symbols) (shifted v c)
   look_periodic symbols v c =

@@ -12,7 +12,8 @@ use Rattle.dd_problem.specs.{Layouts.Layout, Layouts.torus, Layouts.torus_cells,
 abbrev pub read_cells : LocalRule → Cell → List Cell
 read_cells x d = map (shifted d.position) (cells_at x d.node)
 
--- the cells that the premise reads at these cells, and those of the box of the goal's least radius; in cell order, each once
+-- The cells that the premise reads at the given cells, and the cells of the box of the goal's least radius. The list is in cell order and has each
+-- cell once.
 abbrev pub near_cells : LocalRule → GoalOf → List Cell → List Cell
 near_cells x g cells = in_order (box_cells x (goal_reach g) ++ flat_map (read_cells x) cells)
 

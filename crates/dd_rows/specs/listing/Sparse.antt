@@ -1,5 +1,5 @@
--- Rows in a sparse form: for each vector, at most two of a row's coefficients are not 0. Also the first row, and the rows that fillings require, made
--- from what the views show.
+-- Rows in a sparse form: for each vector, at most two of a row's coefficients are not 0. Also the first row, and the rows that fillings require,
+-- which are made from what the views show.
 use Rattle.std.specs.Prelude.{ℕ, ◌*◌, ◌≤◌, ◌≡◌, cond, pos, ◌-ℤ◌, ℤ, List, ◌∷◌, map, length, replicate, Option, Some, None}
 use Rattle.std.specs.{Bool.nat_eq, List.All, List.flat_map, List.range_with_len}
 use Rattle.dd_pattern.specs.Weight.{total_weight}
@@ -7,8 +7,8 @@ use Rattle.dd_rows.specs.declared.{rows.Row.Row, sparse.Exchange.Exchange, spars
 use Rattle.dd_rows.specs.{declared.views.Views.Views, Patterns.pattern_number, Programs.one_at, Programs.coefficients, Programs.add_row}
 use Rattle.dd_rows.specs.listing.Views.{symbols_at}
 
--- What the origin exchanges along a vector, from the numbers of two patterns. It gives the amount of the first pattern, and
--- receives that of the second. If the two are the same, there is no exchange, since the amounts cancel.
+-- What the origin exchanges along a vector, from the numbers of two patterns. The origin gives the amount of the first
+-- pattern, and receives that of the second. If the two numbers are equal, there is no exchange, since the amounts cancel.
 abbrev pub exchange_of : ℕ → ℕ → Option Exchange
 exchange_of gives receives = cond (nat_eq gives receives) None (Some (record { gives = gives; receives = receives }))
 

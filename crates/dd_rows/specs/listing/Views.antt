@@ -22,7 +22,7 @@ givers_of cs box vs = map (λ v. view_of cs box (reversed v)) vs
 abbrev pub centre_of : List Cell → ℕ → List ℕ
 centre_of cs nodes = map (λ a. rank cs (cell origin a)) (range_with_len 0 nodes)
 
--- the views v are those of the rule's discharge along the vectors vs; their numbers are indices in cs
+-- the views v are those of the rule's discharge along the vectors vs, with boxes of this radius; the cells are numbered by the list cs
 pub record AreViews (x : LocalRule) (radius : ℕ) (vs : List Place) (cs : List Cell) (v : Views) : Type 0 where
   pub centre : v.centre ≡ centre_of cs x.nodes
   pub origin : v.origin ≡ view_of cs (box_cells x radius) origin

@@ -7,7 +7,7 @@ use Rattle.dd_fraction.specs.Exact.{Exact, plus, times, minus, inverse}
 use Rattle.dd_fraction.specs.Checked.{IsFraction, does_product_fit, does_sum_fit}
 use Rattle.dd_simplex.specs.Programs.{fraction_at, zero_of, one_of}
 
--- the equation basic = bound - Σ cell · other, over the nonbasic variables
+-- the equation basic = bound - Σ cell · other, where `other` runs through the nonbasic variables
 pub record Line : Type 0 where
   pub basic : ℕ
   pub bound : Exact

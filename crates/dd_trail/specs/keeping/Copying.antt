@@ -25,7 +25,7 @@ is_kept alive number = nat_le 1 number && slice_index_or alive (number - 1) fals
 abbrev pub AreDenied : List Bool → List Code → ℕ → ℕ → Type 0
 AreDenied denied codes from to = (p : ℕ) → from ≤ p → p < to → slice_index_or denied (code_at codes p) false ≡ true
 
--- The same as `IsStop`, with the list `denied` in place of the list of false literals: it says of each code whether its literal is false.
+-- The same as `IsStop`, but with the list `denied` in place of the list of false literals. `denied` says of each code whether its literal is false.
 pub record StopsAt (denied : List Bool) (codes : List Code) (first end : ℕ) : Type 0 where
   pub within : end < length codes
   pub apart : first + 2 ≤ end
@@ -53,7 +53,7 @@ pub record AreOnly (numbers : List ℕ) (first end number : ℕ) : Type 0 where
   pub all : (p : ℕ) → first ≤ p → p ≤ end → number_at numbers p ≡ number
   pub only : (p : ℕ) → p < length numbers → number_at numbers p ≡ number → (first ≤ p) × (p ≤ end)
 
--- the look found that the clause with this number forces the literal with this code, whose variable has no value, or it found nothing
+-- the look found nothing, or it found that the clause with this number forces the literal with this code, and the literal's variable has no value
 abbrev pub SaysForced : ℕ → List Entry → ℕ → ℕ → Scan → Type 0
 SaysForced n trail number index (Conflict r) = ⊥
 SaysForced n trail number index (Unit r l) = (r ≡ number) × (code l ≡ index) × IsFree n trail l.variable

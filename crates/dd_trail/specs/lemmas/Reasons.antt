@@ -22,7 +22,7 @@ all_in P (y ∷ c) x a i = elim (or_cases (same_literal x y) (is_among c x) i) [
   | inr j ↦ all_in P c x (All-tail P y c a) j
 ]
 
--- if `hint_finding` of a number is not `Open`, there is a clause with this number that says the same
+-- if `hint_finding` of a number is not `Open`, there is a clause with this number, and `finding` gives the same for this clause
 pub hint_clause : (known : List (Option (List Literal))) (p : Literal → Bool) (r : ℕ) (f : Finding) → (f ≡ Open → ⊥) → hint_finding known p r ≡ f → (c : List Literal) × (clause_of known r ≡ Some c) × (finding p c ≡ f)
 hint_clause known p r f n h = go (clause_of known r) refl h
   where
@@ -90,7 +90,7 @@ module _ (known : List (Option (List Literal))) where
   pub extends_longer : (older t : EntryList) → Extends known older t → length older.entries ≤ length t.entries
   extends_longer older t x = omega (arith, length-take (length older.entries) t.entries, ap length x.kept)
 
-  -- a trail extends an older one if it does so without its last entry, and its last entry is right and has a reason
+  -- if a trail extends an older one, it still does after one more entry, which is right and has a reason
   pub extends_push : (older t : EntryList) (e : Entry) → Extends known older t → EntryOk t.variables known t.entries e → e.reason ≢ None → Extends known older (record { variables = t.variables; entries = t.entries ++ e ∷ [] })
   extends_push older t e x o r =
       let m : length older.entries ≤ length t.entries = extends_longer older t x in

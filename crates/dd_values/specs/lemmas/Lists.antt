@@ -23,7 +23,7 @@ slice_index_within n [] i h = omega arith
 slice_index_within n (x ∷ xs) zero h = h zero x (omega arith)
 slice_index_within n (x ∷ xs) (suc i) h = slice_index_within n xs i (λ k d within. h (suc k) d (omega (arith, within)))
 
--- in a list of truth values, false past its end, an index with the value true is below the length
+-- past its end, a list of truth values counts as false; so an index with the value true is below the length
 pub nothing_past : (row : List Bool) (t : ℕ) → get_or row t false ≡ true → t < length row
 nothing_past row t h = elim (cases_lt t (length row)) [ inl low ↦ low | inr high ↦ absurd (let past = get_or-eq_default row false high in cc) ]
 

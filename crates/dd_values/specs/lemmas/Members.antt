@@ -34,7 +34,7 @@ sorted_append {K} R (x ∷ xs) ys up up' before =
       sorted_append R xs ys up.1 up' (λ p q c. before p q (Contains-later x xs p c)),
     )
 
--- an ascending list stays ascending if an item that all its members come before is added at its end
+-- if all members of an ascending list come before an item, the list stays ascending when this item is added at its end
 pub sorted_push : {K : Type 0} (R : K → K → Ordering) (xs : List K) (y : K) → IsStrictlySortedBy R xs → ((p : K) → Contains xs p → R p y ≡ Less) →
     IsStrictlySortedBy R (xs ++ y ∷ [])
 unfolding IsStrictlySortedBy

@@ -1,6 +1,6 @@
 -- Natural numbers and integers.
 use Rattle.std.proofs.lemmas.Int.{ints}
-use Rattle.std.proofs.Common.{arith, ℤ, ◌+ℤ◌, pos, ◌≡◌, suc, ◌*◌, zero, ℕ, ◌<◌, true, ◌≤ℤ◌, ◌≤◌, ◌^◌, ◌-◌, sym, ◌+◌, cond, Bool, false}
+use Rattle.std.proofs.Common.{arith, ℤ, ◌+ℤ◌, pos, ◌≡◌, suc, ◌*◌, zero, ℕ, ◌<◌, true, ◌≤ℤ◌, ◌≤◌, ◌^◌, sym, ◌+◌, cond, Bool, false}
 use Rattle.std.proofs.{Math.Nat.pow-succ', Math.Nat.pow-zero, lemmas.Nat.mul-add-lt}
 use Rattle.std.specs.{Prelude.int_le, Prelude.int_lt, Prelude.◌<ℤ◌, Prelude.◌-ℤ◌, Int.int_min, Int.int_max, Ordering.int_cmp}
 use Rattle.std.specs.{Cmp.int_cmp_is, declared.cmp.Ordering.TheVariants.Less, declared.cmp.Ordering.TheVariants.Equal}
