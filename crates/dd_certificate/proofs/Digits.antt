@@ -1,25 +1,20 @@
 -- Writing a number, starting with its last digit.
-use Rattle.std.proofs.Common.{◌≡◌, ℕ, zero, suc, ◌+◌, ◌*◌, ◌/◌, ◌%◌, ◌^◌, ◌<◌, ◌≤◌, List, [], ◌∷◌, ◌++◌, set, length, drop, refl, ap, ◌∙◌, append_assoc, arith}
+use Rattle.std.proofs.Common.{◌≡◌, ℕ, zero, suc, ◌+◌, ◌*◌, ◌/◌, ◌%◌, ◌^◌, ◌<◌, ◌≤◌, List, [], ◌∷◌, ◌++◌, set, length, drop, refl, ap, ◌∙◌, append_assoc, add-one, arith}
 use Rattle.std.proofs.{Math.Nat.pow-suc, lemmas.Fmt.decimal_digit, lemmas.Fmt.decimal_step}
+use Rattle.std.proofs.lemmas.List.{drop-set}
 use Rattle.std.specs.Fmt.{decimal}
-
--- the items from an index on, after the item at this index is set
-drop_set : (digits : List ℕ) (k digit : ℕ) → k < length digits → drop k (set digits k digit) ≡ digit ∷ drop (suc k) digits
-drop_set [] k digit h = absurd (omega (arith, h))
-drop_set (x ∷ digits) zero digit h = refl
-drop_set (x ∷ digits) (suc k) digit h = drop_set digits k digit (omega (arith, h))
 
 -- the last digit of the rest moves from the rest to the digits that are written
 pub digit_more : (whole : List ℕ) (rest at k : ℕ) (digits : List ℕ) → 10 ≤ rest → rest < 2 ^ 64 → at ≡ suc k → k < length digits → whole ≡ decimal rest ++ drop at digits
     → whole ≡ decimal (rest / 10) ++ drop k (set digits k (48 + rest % 10))
 digit_more whole rest at k digits many fits next within e =
-    rw (drop_set digits k (48 + rest % 10) within, ← next) (e ∙ ap (λ (xs : List ℕ). xs ++ drop at digits) (decimal_step rest many fits) ∙ append_assoc (decimal (rest / 10)) ((48 + rest % 10) ∷ []) (drop at digits))
+    rw (drop-set digits k (48 + rest % 10) within, add-one k, ← next) (e ∙ ap (λ (xs : List ℕ). xs ++ drop at digits) (decimal_step rest many fits) ∙ append_assoc (decimal (rest / 10)) ((48 + rest % 10) ∷ []) (drop at digits))
 
 -- the first digit is written, when the rest has one digit
 pub digit_first : (whole : List ℕ) (rest at k : ℕ) (digits : List ℕ) → rest < 10 → at ≡ suc k → k < length digits → whole ≡ decimal rest ++ drop at digits
     → drop k (set digits k (48 + rest)) ≡ whole
 digit_first whole rest at k digits few next within e =
-    rw (drop_set digits k (48 + rest) within, e, decimal_digit rest few, next) refl
+    rw (drop-set digits k (48 + rest) within, add-one k, e, decimal_digit rest few, next) refl
 
 -- there is room for one more digit
 pub room_more : (rest at k : ℕ) → at ≡ suc k → 10 ≤ rest → rest < 10 ^ at → (0 < k) × (rest / 10 < 10 ^ k)

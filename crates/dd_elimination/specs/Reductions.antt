@@ -25,8 +25,8 @@ pub record AreNamed (known : List (Option (List Literal))) (numbers : List ℕ) 
   pub as_many : length numbers ≡ length clauses
   pub named : (k : ℕ) → k < length clauses → IsNamed known (slice_index_or numbers k 0) (slice_index_or clauses k [])
 
--- The elimination is right. Each of its steps is right, and deletes nothing. Each clause of the reduced list has the same literals as the clause of the whole
--- list, or of a step, that has its number.
+-- The elimination is right. Each of its steps is right, and deletes nothing. Each clause of the reduced list has the same literals as the clause of
+-- the whole list, or of a step, that has its number.
 pub record IsReduction (n : ℕ) (clauses : List (List Literal)) (steps : List Step) (reduced : List (List Literal)) (numbers : List ℕ) : Type 0 where
   pub derived : derives n clauses steps ≡ true
   pub named : AreNamed (all_known (clauses_before clauses steps)) numbers reduced

@@ -26,7 +26,7 @@ pub record HavePairs (k : Known) (cs : List ComparisonOf) : Type 0 where
   pub formed : All (λ c. IsPair k.setting (pair_of k.setting c)) cs
   pub faultless : faults_in_order k cs ≡ []
 
--- `made` are the pairs of the comparisons, and `HavePairs` holds
+-- the list `made` has the pairs of the comparisons, in order, and `HavePairs` holds
 pub record ArePairs (k : Known) (cs : List ComparisonOf) (made : List Pair) : Type 0 where
   pub are : made ≡ map (pair_of k.setting) cs
   pub sound : HavePairs k cs
