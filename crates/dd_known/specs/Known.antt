@@ -1,11 +1,11 @@
--- The dimension of a script's lattice, and the names that a word of a query may be.
+-- The dimension of a script's lattice, and the names of what a script has defined, by the role of a word in a query.
 use Rattle.std.specs.Prelude.{ℕ, List}
 use Rattle.dd_known.specs.Tree.{Role, Known}
 
 abbrev pub dimension_of : Known → ℕ
 dimension_of k = k.setting.topology.dimension
 
--- the names that a word with this role may be
+-- the names allowed for a word with this role: the role says whether the word names a rule, an automaton or a configuration
 abbrev pub named : Known → Role → List (List ℕ)
 named k Role.Rule = k.rules
 named k Role.Automaton = k.automata

@@ -41,7 +41,8 @@ most_in_box = 65536
 abbrev pub most_vectors : ℕ
 most_vectors = 16
 
--- the greatest absolute value of an entry of an edge's offset or of a vector of a discharge
+-- the greatest absolute value of an entry, both in an edge's offset (from the position of its first node to that of its second)
+-- and in a vector of a discharge
 abbrev pub farthest : ℕ
 farthest = 4
 

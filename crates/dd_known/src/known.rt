@@ -55,7 +55,7 @@ impl Known {
     ghost use Rattle.std.specs.Prelude.{◌≡◌};
     ghost use Rattle.dd_known.specs.Known.{named};
 
-    /// The names that a word with this role may be: those of all rules, all automata or all configurations.
+    /// The names allowed for a word with this role: those of all rules, of all automata or of all configurations.
     pub fn named(&self, role: Role) -> &Names
         ensures { result.now ≡ named self.now role }
     {

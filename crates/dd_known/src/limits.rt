@@ -34,7 +34,8 @@ pub const MOST_IN_BOX: usize = 65_536;
 /// The greatest number of vectors of a discharge.
 pub const MOST_VECTORS: usize = 16;
 
-/// The greatest absolute value of an entry of an edge's offset or of a vector of a discharge.
+/// The greatest absolute value of an entry, both in an edge's offset and in a vector of a discharge. The offset of an edge
+/// leads from the position of its first node to that of its second.
 pub const FARTHEST: u32 = 4;
 
 /// The greatest period of a strip.
