@@ -1,8 +1,8 @@
-//! The search for a living configuration of least weight. It consists of several searches. The first one asks for any living
-//! configuration. A local search replaces the result by a lighter configuration, if it can. Each later search asks for a
-//! configuration that is lighter than the last one found. The last one found has the least weight if it weighs 0, or if a
-//! refutation shows that none is lighter. While the weight may still be far above the least weight, a search asks for a much
-//! lighter configuration, so that few searches are needed.
+//! The search for a living configuration of least weight. It begins with any living configuration, which may be one with the
+//! same symbol at all cells. A local search replaces it by a lighter configuration, if it can. Then several searches follow.
+//! Each of them asks for a configuration that is lighter than the last one found. The last one found has the least weight if
+//! it weighs 0, or if a refutation shows that none is lighter. While the weight may still be far above the least weight, a
+//! search asks for a much lighter configuration, so that few searches are needed.
 ghost use Rattle.std.specs.Prelude.{◌≡◌, ◌≤◌, ◌*◌, ◌↔◌, length, All, IfOk};
 ghost use Rattle.dd_values.specs.Bounds.{most_weight};
 ghost use Rattle.dd_pattern.specs.Periods.{periods_of, periods_volume};
@@ -13,7 +13,7 @@ ghost use Rattle.dd_counter.specs.Weights.{weight_count};
 ghost use Rattle.dd_counter.specs.Least.{greatest, IsLiving, IsLeast};
 ghost use Rattle.dd_counter.specs.searching.Lighter.{IsLighter};
 
-use crate::living::living;
+use crate::living::{constant_living, living};
 use crate::local_search::LocalSearch;
 use crate::torus_rule::TorusRule;
 use crate::weights::weight_clauses;
@@ -61,8 +61,9 @@ enum Lighter {
     Nothing(Items<Step>),
 }
 
-/// Finds an assignment that satisfies the clauses, or steps that refute them. If `below` is 0, no variables are eliminated first:
-/// without a bound on the weight, the clauses are usually easy to satisfy, and the elimination would take longer than the search.
+/// Finds an assignment that satisfies the clauses, or steps that refute them. If `below` is 0, no variables are eliminated
+/// first: without a bound on the weight, the clauses are usually easy to satisfy, and the elimination would take longer than
+/// the search.
 fn solved(alloc: Global, cnf: &Cnf, below: u64) -> Result<Outcome, AllocError>
     ensures answer { IfOk result (IsAnswer cnf.now.variables cnf.now.clauses) }
     ensures refuted { IfOk result (λ outcome. IsRefuted outcome ↔ ¬ (IsSatisfiable cnf.now.clauses)) }
@@ -106,8 +107,43 @@ fn search_below(
     }
 }
 
-/// The living configuration that a local search finds from `start`, usually a lighter one. If the rule's encoding has more than
-/// `MOST_LOCAL_CLAUSES` clauses on the torus, there is no such search, and the result is `start` itself.
+/// How many clauses the rule's encoding has at all cells of the torus together.
+fn encoding_size(rule: &Rule, periods: [u32; 3]) -> u64 {
+    let [x, y, z] = periods;
+    let mut clauses = 0u64;
+    for node in 0..rule.nodes() {
+        clauses = clauses.saturating_add(rule.clause_count(node));
+    }
+    clauses
+        .saturating_mul(u64::from(x))
+        .saturating_mul(u64::from(y))
+        .saturating_mul(u64::from(z))
+}
+
+/// Any living configuration, or steps that refute the clauses that ask for one. Where the local search makes the result
+/// lighter (see `lightened`), it may be heavy. So there, a configuration in which all cells have the same symbol is tried
+/// first.
+fn first_living(
+    alloc: Global,
+    rule: &Rule,
+    periods: [u32; 3],
+    weights: &[u32],
+) -> Result<Lighter, AllocError>
+    requires periods { AreTorusPeriods rule.now.dimension rule.now.nodes (periods_of periods 0) }
+    requires weights { length weights.now ≡ rule.now.symbols }
+    requires count { weight_count rule.now (periods_of periods 0) weights.now 0 ≤ most_clauses }
+    ensures { IfOk result (IsLighter rule.now (periods_of periods 0) weights.now 0) }
+{
+    if encoding_size(rule, periods) <= MOST_LOCAL_CLAUSES {
+        if let Some(periodic) = constant_living(alloc, rule, periods)? {
+            return Ok(Lighter::Found(periodic));
+        }
+    }
+    search_below(alloc, rule, periods, weights, 0)
+}
+
+/// The living configuration that a local search finds from `start`, usually a lighter one. If the rule's encoding has more
+/// than `MOST_LOCAL_CLAUSES` clauses on the torus, there is no such search, and the result is `start` itself.
 fn lightened(
     alloc: Global,
     rule: &Rule,
@@ -190,7 +226,7 @@ pub fn least_weight(
         (periods_volume (periods_of periods 0) * rule.now.nodes * greatest weights.now) ≤ most_clauses }
     ensures { IfOk result (IsLeast rule.now (periods_of periods 0) weights.now) }
 {
-    let first = match search_below(alloc, rule, periods, weights, 0)? {
+    let first = match first_living(alloc, rule, periods, weights)? {
         Lighter::Found(periodic) => periodic,
         Lighter::Nothing(steps) => return Ok(LeastWeight::Nothing { steps }),
     };

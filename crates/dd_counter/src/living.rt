@@ -1,10 +1,12 @@
 //! Living configurations made from the symbols of a torus.
-ghost use Rattle.std.specs.Prelude.{MatchOption, ⊤};
+ghost use Rattle.std.specs.Prelude.{MatchOption, ⊤, IfOk, IfSome};
 ghost use Rattle.dd_pattern.specs.Periods.{periods_of};
+ghost use Rattle.dd_boxes.specs.TorusPeriods.{AreTorusPeriods};
 ghost use Rattle.dd_counter.specs.Least.{IsLiving};
 
 use dd_formula::{Membership, Rule, fits, has_allowed};
 use dd_pattern::Periodic;
+use std::alloc::{AllocError, Global};
 
 /// The living configuration with these periods, shear 0, and these symbols in its fundamental box, in cell order. `None` if
 /// there is no such configuration.
@@ -23,4 +25,26 @@ pub(crate) fn living(rule: &Rule, periods: [u32; 3], symbols: Vec<u32>) -> Optio
         Membership::Inside => Some(periodic),
         Membership::Outside(_) => None,
     }
+}
+
+/// A living configuration with these periods and shear 0 in which all cells have the same symbol. `None` if there is no such
+/// configuration.
+pub(crate) fn constant_living(
+    alloc: Global,
+    rule: &Rule,
+    periods: [u32; 3],
+) -> Result<Option<Periodic>, AllocError>
+    requires { AreTorusPeriods rule.now.dimension rule.now.nodes (periods_of periods 0) }
+    ensures { IfOk result (λ found. IfSome found (IsLiving rule.now (periods_of periods 0))) }
+{
+    let [x, y, z] = periods;
+    let nodes = rule.nodes();
+    let cells = z * y * x * nodes;
+    for symbol in 0..rule.symbols() {
+        let symbols = vec![in alloc; symbol; cells as usize]?;
+        if let Some(periodic) = living(rule, periods, symbols) {
+            return Ok(Some(periodic));
+        }
+    }
+    Ok(None)
 }

@@ -1,12 +1,12 @@
 //! A local search for lighter configurations of a torus. Each step changes the symbol of at most one cell. While the
 //! configuration is no lighter than the best one so far, a cell gets a lighter symbol. Once the configuration is lighter, the
 //! search takes a cell where the rule is false, and one of the cells that the rule reads there gets another symbol. Whenever
-//! the configuration is lighter and the rule is true at every cell, `lighten_all` makes it still lighter, if it can. Then it is
-//! the new best one.
+//! the configuration is lighter and the rule is true at every cell, `lighten_all` makes it still lighter, if it can. Then it
+//! is the new best one.
 //!
-//! Each cell has a penalty, which is 1 at first. After each step, it grows by 1 if the rule is false at the cell (Morris 1993),
-//! as in NuMVC (Cai, Su, Luo and Sattar 2013). A change is chosen so that the sum of the penalties of the cells where the rule
-//! is false becomes as small as possible.
+//! Each cell has a penalty, which is 1 at first. After each step, it grows by 1 if the rule is false at the cell (Morris
+//! 1993), as in NuMVC (Cai, Su, Luo and Sattar 2013). A change is chosen so that the sum of the penalties of the cells where
+//! the rule is false becomes as small as possible.
 //!
 //! No contract depends on this search: its result is checked afterwards. No invariant says that the indices kept here are
 //! within their lists. So the code tests each index, even where the test can't fail.
@@ -14,11 +14,11 @@ use crate::torus_rule::TorusRule;
 use dd_formula::Rule;
 use std::alloc::{AllocError, Global};
 
-/// How much the search may cost until it finds a lighter configuration. The cost is an estimate of the work. Once the search
-/// has cost this much without finding a lighter configuration, it ends. This much work takes a few milliseconds.
-const PATIENCE: u64 = 100_000;
+/// The greatest patience (see `patience_of`). This much work takes a few milliseconds.
+const MOST_PATIENCE: u64 = 100_000;
 
-/// How much the whole search may cost. Once it has cost this much, it makes no more steps. This much work takes about a second.
+/// How much the whole search may cost. Once it has cost this much, it makes no more steps. This much work takes about a
+/// second.
 const MOST_COST: u64 = 50_000_000;
 
 /// A change of one cell's symbol. Two changes are compared field by field, in the order of the fields, and the smaller one is
@@ -55,8 +55,10 @@ pub(crate) struct LocalSearch<'a> {
     step: u64,
     /// How many steps in a row changed nothing.
     idle: u32,
-    /// How much the search may still cost until it finds a lighter configuration.
+    /// How much the search may cost from one lighter configuration to the next (see `patience_of`).
     patience: u64,
+    /// How much the search may still cost until it finds a lighter configuration.
+    left: u64,
     /// How much the whole search may still cost.
     budget: u64,
 }
@@ -75,6 +77,7 @@ impl<'a> LocalSearch<'a> {
         for symbol in symbols {
             weight = weight.saturating_add(u64::from(weight_of(weights, *symbol)));
         }
+        let patience = patience_of(torus);
         Ok(LocalSearch {
             rule,
             torus,
@@ -87,7 +90,8 @@ impl<'a> LocalSearch<'a> {
             changed: vec![in alloc; 0; count]?,
             step: 1,
             idle: 0,
-            patience: PATIENCE,
+            patience,
+            left: patience,
             budget: MOST_COST,
         })
     }
@@ -97,10 +101,9 @@ impl<'a> LocalSearch<'a> {
         self.lighten_all();
         let mut best = Vec::from_slice(alloc, self.symbols.as_slice())?;
         let mut least = self.weight;
-        // Each step costs at least 1, and the patience is never more than what is left of the budget. So the loop ends long
-        // before this bound.
+        // Each step costs at least 1, and `left` is never more than the budget. So the loop ends long before this bound.
         for _ in 0..u64::MAX {
-            if least == 0 || self.patience == 0 || !self.make_step(least)? {
+            if least == 0 || self.left == 0 || !self.make_step(least)? {
                 break;
             }
             if self.falses.is_empty() && self.weight < least {
@@ -114,8 +117,8 @@ impl<'a> LocalSearch<'a> {
     }
 
     /// Makes the best change to a lighter symbol or, once the weight is below `least`, the best repair. If there is none, no
-    /// symbol changes. Then raises penalties. Returns false if the rule is true at each cell, and neither this step nor the one
-    /// before it changed a symbol.
+    /// symbol changes. Then raises penalties. Returns false if the rule is true at each cell, and neither this step nor the
+    /// one before it changed a symbol.
     fn make_step(&mut self, least: u64) -> Result<bool, AllocError> {
         self.step = self.step.saturating_add(1);
         let change = if self.weight >= least {
@@ -135,7 +138,7 @@ impl<'a> LocalSearch<'a> {
     }
 
     fn pay(&mut self, cost: u64) {
-        self.patience = self.patience.saturating_sub(cost);
+        self.left = self.left.saturating_sub(cost);
         self.budget = self.budget.saturating_sub(cost);
     }
 
@@ -153,8 +156,8 @@ impl<'a> LocalSearch<'a> {
     }
 
     /// Gives each cell in turn the lightest allowed symbol under which the rule stays true everywhere. The rule has to be true
-    /// at each cell when the call begins. Then sets the patience to `PATIENCE`, or to what is left of the budget if that is
-    /// less.
+    /// at each cell when the call begins. From then on, the search may again cost as much as its patience, but no more than
+    /// what is left of the budget.
     fn lighten_all(&mut self) {
         for cell in 0..self.symbols.len() {
             for symbol in 0..self.rule.symbols() {
@@ -166,7 +169,7 @@ impl<'a> LocalSearch<'a> {
                 }
             }
         }
-        self.patience = PATIENCE.min(self.budget);
+        self.left = self.patience.min(self.budget);
     }
 
     /// The best change to a lighter symbol. Cells that were changed in the previous step are left out.
@@ -343,6 +346,19 @@ impl<'a> LocalSearch<'a> {
         }
         Ok(())
     }
+}
+
+/// The patience of a search: how much it may cost until it finds a lighter configuration. Once it has cost this much without
+/// finding one, it ends. The cost is an estimate of the work. The patience is the cost of testing one change of each cell,
+/// times the number of cells, but at most `MOST_PATIENCE`.
+fn patience_of(torus: &TorusRule) -> u64 {
+    let mut cost = 0u64;
+    for cell in 0..torus.len() {
+        for reader in torus.readers(cell) {
+            cost = cost.saturating_add(torus.cost(*reader));
+        }
+    }
+    cost.saturating_mul(torus.len() as u64).min(MOST_PATIENCE)
 }
 
 /// The weight of a symbol.

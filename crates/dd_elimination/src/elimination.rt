@@ -8,7 +8,7 @@
 //!
 //! No contract depends on what is done here, since the steps, the remaining clauses and the assignment for the whole list are
 //! checked. No invariant says that the indices kept here are within their lists. So the code tests them. The tests never fail.
-use crate::resolution::{Relation, distinct, relate, resolvent, resolvent_length, without};
+use crate::resolution::{Relation, part, push_distinct, relate, resolvent_length};
 use dd_clause::{Clause, Cnf, Literal};
 use dd_derivation::Step;
 use dd_values::Items;
@@ -28,10 +28,11 @@ const ROUNDS: usize = 10;
 /// Roughly the greatest number of pairs of literals that are compared. Comparing that many takes about half a second.
 const MOST_WORK: u64 = 100_000_000;
 
-/// A clause of the list or of a step.
-#[derive(Drop)]
+/// A clause of the list or of a step. Its literals are those of `Elimination::literals` from index `start` up to `end`.
+#[derive(Clone, Copy)]
 pub(crate) struct Entry {
-    pub literals: Vec<Literal>,
+    start: usize,
+    end: usize,
     /// The number of the clause, as a step names it in its hints.
     pub number: u64,
     /// For each variable of the clause, the bit at the variable's number modulo 64 is set. If one clause's signature has a bit
@@ -41,18 +42,12 @@ pub(crate) struct Entry {
     pub is_alive: bool,
 }
 
-/// A variable that was eliminated, and the indices of the clauses that contained it (not of those that contained its negation).
+/// A variable that was eliminated, and the indices of the clauses that contained it (not of those that contained its
+/// negation).
 #[derive(Drop)]
 pub(crate) struct Eliminated {
     pub variable: u32,
     pub clauses: Vec<usize>,
-}
-
-/// A new clause, and the numbers of the two clauses that it comes from.
-#[derive(Drop)]
-struct Resolvent {
-    literals: Vec<Literal>,
-    parents: [u64; 2],
 }
 
 /// A variable to be tried. Candidates with fewer pairs come first.
@@ -76,11 +71,13 @@ pub(crate) struct Elimination {
     variables: u32,
     /// How many clauses the list had.
     count: u64,
+    /// The literals of all entries, one entry after the other.
+    literals: Vec<Literal>,
     pub entries: Vec<Entry>,
     /// For each variable, by its number, the indices of the entries that have it or its negation. Some may not be alive.
     occurrences: Vec<Vec<usize>>,
-    /// For each variable, by its number, whether it is to be tried: true at first, false once it has been tried, and true again
-    /// once a clause with it or its negation has been removed.
+    /// For each variable, by its number, whether it is to be tried: true at first, false once it has been tried, and true
+    /// again once a clause with it or its negation has been removed.
     changed: Vec<bool>,
     /// The indices of the entries that have not been compared with the others yet.
     waiting: Vec<usize>,
@@ -105,6 +102,27 @@ fn is_alive(entries: &[Entry], index: usize) -> bool {
         Some(entry) => entry.is_alive,
         None => false,
     }
+}
+
+/// An empty list of indices for each of `count` variables. Each list has room for the clauses that have the variable.
+fn empty_occurrences(
+    alloc: Global,
+    cnf: &Cnf,
+    count: usize,
+) -> Result<Vec<Vec<usize>>, AllocError> {
+    let mut rooms = vec![in alloc; 0usize; count]?;
+    for clause in cnf.clauses() {
+        for literal in clause.literals() {
+            if let Some(room) = rooms.get_mut(literal.variable as usize) {
+                *room = room.saturating_add(1);
+            }
+        }
+    }
+    let mut occurrences: Vec<Vec<usize>> = Vec::with_capacity(alloc, count)?;
+    for room in rooms {
+        occurrences.push(Vec::with_capacity(alloc, room)?)?;
+    }
+    Ok(occurrences)
 }
 
 /// How many pairs there are of a literal of the first list and a literal of the second.
@@ -133,15 +151,12 @@ impl Elimination {
     /// clause and all later ones are left out too.
     fn start(alloc: Global, cnf: &Cnf) -> Result<Elimination, AllocError> {
         let count = cnf.variables() as usize + 1;
-        let mut occurrences: Vec<Vec<usize>> = Vec::with_capacity(alloc, count)?;
-        for _ in 0..count {
-            occurrences.push(Vec::new(alloc))?;
-        }
         let mut elimination = Elimination {
             variables: cnf.variables(),
             count: cnf.clauses().len() as u64,
-            entries: Vec::new(alloc),
-            occurrences,
+            literals: Vec::new(alloc),
+            entries: Vec::with_capacity(alloc, cnf.clauses().len())?,
+            occurrences: empty_occurrences(alloc, cnf, count)?,
             changed: vec![in alloc; true; count]?,
             waiting: Vec::new(alloc),
             eliminated: Vec::new(alloc),
@@ -156,8 +171,9 @@ impl Elimination {
             if elimination.work == 0 {
                 break;
             }
-            if let Some(literals) = distinct(alloc, literals)? {
-                elimination.add(literals, number)?;
+            let start = elimination.literals.len();
+            if push_distinct(&mut elimination.literals, literals)? {
+                elimination.add(start, number)?;
             }
         }
         Ok(elimination)
@@ -167,43 +183,53 @@ impl Elimination {
         self.work = self.work.saturating_sub(work);
     }
 
-    /// Adds a clause. It waits to be compared with the others.
-    fn add(&mut self, literals: Vec<Literal>, number: u64) -> Result<(), AllocError> {
+    /// The literals of an entry.
+    pub(crate) fn literals_of(&self, entry: &Entry) -> &[Literal] {
+        part(self.literals.as_slice(), entry.start, entry.end)
+    }
+
+    /// Adds a clause. Its literals are the last ones of `literals`, from index `start` on. It waits to be compared with the
+    /// others.
+    fn add(&mut self, start: usize, number: u64) -> Result<(), AllocError> {
         let index = self.entries.len();
-        for literal in literals.as_slice() {
+        let end = self.literals.len();
+        let literals = part(self.literals.as_slice(), start, end);
+        for literal in literals {
             let variable = literal.variable as usize;
             if variable < self.occurrences.len() {
                 self.occurrences[variable].push(index)?;
             }
         }
-        let signature = signature(literals.as_slice());
-        self.waiting.push(index)?;
         self.entries.push(Entry {
-            literals,
+            start,
+            end,
             number,
-            signature,
+            signature: signature(literals),
             is_alive: true,
         })?;
+        self.waiting.push(index)?;
         Ok(())
     }
 
-    /// Adds a clause that follows from two others, and the step that says so.
-    fn derive(&mut self, alloc: Global, resolvent: Resolvent) -> Result<(), AllocError> {
-        let Resolvent { literals, parents } = resolvent;
+    /// Adds a clause that follows from two others, its parents, and the step that says so. The clause's literals are the last
+    /// ones of `literals`, from index `start` on.
+    fn derive(&mut self, alloc: Global, start: usize, parents: [u64; 2]) -> Result<(), AllocError> {
+        let literals = part(self.literals.as_slice(), start, self.literals.len());
         self.steps.push(Step {
-            clause: Clause::from_literals(alloc, literals.as_slice())?,
+            clause: Clause::from_literals(alloc, literals)?,
             hints: Items::from_slice(alloc, &parents)?,
             deletes: Items::new(alloc),
         })?;
         let number = self.count.saturating_add(self.steps.len() as u64);
-        self.add(literals, number)
+        self.add(start, number)
     }
 
     /// Takes a clause out of the list. Its variables are worth another try.
     fn remove(&mut self, index: usize) {
         if index < self.entries.len() {
             self.entries[index].is_alive = false;
-            for literal in self.entries[index].literals.as_slice() {
+            let Entry { start, end, .. } = self.entries[index];
+            for literal in part(self.literals.as_slice(), start, end) {
                 let variable = literal.variable as usize;
                 if variable < self.changed.len() {
                     self.changed[variable] = true;
@@ -238,7 +264,7 @@ impl Elimination {
         }
         let mut rarest: Option<usize> = None;
         let mut least = usize::MAX;
-        for literal in entry.literals.as_slice() {
+        for literal in self.literals_of(entry) {
             let variable = literal.variable as usize;
             if variable < self.occurrences.len() && self.occurrences[variable].len() < least {
                 least = self.occurrences[variable].len();
@@ -256,19 +282,24 @@ impl Elimination {
         }
         let entry = &self.entries[index];
         let compared = &self.entries[other];
-        let is_short = entry.literals.len() <= compared.literals.len();
-        if !is_short || !compared.is_alive || entry.signature & !compared.signature != 0 {
+        if !compared.is_alive || entry.signature & !compared.signature != 0 {
             return Relation::Unrelated;
         }
-        let pairs = pairs_of(entry.literals.as_slice(), compared.literals.as_slice());
-        let relation = relate(entry.literals.as_slice(), compared.literals.as_slice());
+        let literals = self.literals_of(entry);
+        let others = self.literals_of(compared);
+        if literals.len() > others.len() {
+            return Relation::Unrelated;
+        }
+        let pairs = pairs_of(literals, others);
+        let relation = relate(literals, others);
         self.pay(pairs);
         relation
     }
 
     /// Compares each waiting clause with the others, until none is waiting.
     fn compare_all(&mut self, alloc: Global) -> Result<(), AllocError> {
-        // The loop ends long before its bound. A `while` would need a proof that it ends, and nothing is proved of the clauses.
+        // The loop ends long before its bound. A `while` would need a proof that it ends, and nothing is proved of the
+        // clauses.
         for _ in 0..u64::MAX {
             let Some(index) = self.waiting.pop() else {
                 break;
@@ -312,10 +343,24 @@ impl Elimination {
         if index >= self.entries.len() || other >= self.entries.len() {
             return Ok(());
         }
-        let literals = without(alloc, self.entries[other].literals.as_slice(), variable)?;
-        let parents = [self.entries[index].number, self.entries[other].number];
+        let shortened = self.entries[other];
+        let parents = [self.entries[index].number, shortened.number];
+        let start = self.literals.len();
+        self.push_without(shortened, variable)?;
         self.remove(other);
-        self.derive(alloc, Resolvent { literals, parents })
+        self.derive(alloc, start, parents)
+    }
+
+    /// Adds to `literals` the literals of an entry, without those of the variable.
+    fn push_without(&mut self, entry: Entry, variable: u32) -> Result<(), AllocError> {
+        for place in entry.start..entry.end {
+            if let Some(literal) = self.literals.get(place).copied() {
+                if literal.variable != variable {
+                    self.literals.push(literal)?;
+                }
+            }
+        }
+        Ok(())
     }
 
     /// Tries to eliminate each of the candidates, until `work` is 0. Returns whether a variable was eliminated.
@@ -360,7 +405,7 @@ impl Elimination {
         if let Some(indices) = self.occurrences.get(variable as usize) {
             for index in indices.as_slice() {
                 if let Some(entry) = self.entries.get(*index) {
-                    if entry.literals.contains(&literal) {
+                    if self.literals_of(entry).contains(&literal) {
                         count = count.saturating_add(1);
                     }
                 }
@@ -371,19 +416,19 @@ impl Elimination {
 
     /// The clauses that contain the variable, and those that contain its negation.
     fn sides(&mut self, alloc: Global, variable: u32) -> Result<Sides, AllocError> {
-        self.tidy(variable as usize);
+        let count = self.tidy(variable as usize);
         let literal = Literal {
             variable,
             positive: true,
         };
         let mut sides = Sides {
-            positive: Vec::new(alloc),
-            negative: Vec::new(alloc),
+            positive: Vec::with_capacity(alloc, count)?,
+            negative: Vec::with_capacity(alloc, count)?,
         };
         if let Some(indices) = self.occurrences.get(variable as usize) {
             for index in indices.as_slice() {
                 if let Some(entry) = self.entries.get(*index) {
-                    if entry.literals.contains(&literal) {
+                    if self.literals_of(entry).contains(&literal) {
                         sides.positive.push(*index)?;
                     } else {
                         sides.negative.push(*index)?;
@@ -404,7 +449,7 @@ impl Elimination {
         if !self.is_worth_it(variable, &sides) {
             return Ok(false);
         }
-        let resolvents = self.resolvents(alloc, variable, &sides)?;
+        self.derive_resolvents(alloc, variable, &sides)?;
         let Sides { positive, negative } = sides;
         for index in positive.as_slice() {
             self.remove(*index);
@@ -416,14 +461,11 @@ impl Elimination {
             variable,
             clauses: positive,
         })?;
-        for resolvent in resolvents {
-            self.derive(alloc, resolvent)?;
-        }
         Ok(true)
     }
 
-    /// Whether some clause has the variable or its negation, the variable has at most `MOST_PAIRS` pairs, its resolvents are no
-    /// more than the clauses that they would replace, and none of them is too long.
+    /// Whether some clause has the variable or its negation, the variable has at most `MOST_PAIRS` pairs, its resolvents are
+    /// no more than the clauses that they would replace, and none of them is too long.
     fn is_worth_it(&mut self, variable: u32, sides: &Sides) -> bool {
         let most = sides.positive.len().saturating_add(sides.negative.len());
         if most == 0 || sides.positive.len().saturating_mul(sides.negative.len()) > MOST_PAIRS {
@@ -445,55 +487,55 @@ impl Elimination {
 
     /// How many literals the resolvent of two clauses on a variable has. `None` if it holds a literal and its negation.
     fn resolvent_length(&mut self, variable: u32, index: usize, other: usize) -> Option<usize> {
-        let first = self.entries.get(index)?.literals.as_slice();
-        let second = self.entries.get(other)?.literals.as_slice();
+        let first = self.literals_of(self.entries.get(index)?);
+        let second = self.literals_of(self.entries.get(other)?);
         let pairs = pairs_of(first, second);
         let length = resolvent_length(first, second, variable);
         self.pay(pairs);
         length
     }
 
-    /// All resolvents of a clause that has the variable and a clause that has its negation, except those that hold a literal
-    /// and its negation.
-    fn resolvents(
+    /// Adds all resolvents of a clause that has the variable and a clause that has its negation, except those that hold a
+    /// literal and its negation.
+    fn derive_resolvents(
         &mut self,
         alloc: Global,
         variable: u32,
         sides: &Sides,
-    ) -> Result<Vec<Resolvent>, AllocError> {
-        let mut resolvents: Vec<Resolvent> = Vec::new(alloc);
+    ) -> Result<(), AllocError> {
         for index in sides.positive.as_slice() {
             for other in sides.negative.as_slice() {
                 if self.resolvent_length(variable, *index, *other).is_some() {
-                    if let Some(resolvent) = self.resolvent(alloc, variable, *index, *other)? {
-                        resolvents.push(resolvent)?;
-                    }
+                    self.derive_resolvent(alloc, variable, *index, *other)?;
                 }
             }
         }
-        Ok(resolvents)
+        Ok(())
     }
 
-    /// The resolvent of two clauses on a variable.
-    fn resolvent(
-        &self,
+    /// Adds the resolvent of two clauses on a variable: the literals of the two clauses, each once, without those of the
+    /// variable.
+    fn derive_resolvent(
+        &mut self,
         alloc: Global,
         variable: u32,
         index: usize,
         other: usize,
-    ) -> Result<Option<Resolvent>, AllocError> {
+    ) -> Result<(), AllocError> {
         if index >= self.entries.len() || other >= self.entries.len() {
-            return Ok(None);
+            return Ok(());
         }
-        let first = &self.entries[index];
-        let second = &self.entries[other];
-        let literals = resolvent(
-            alloc,
-            first.literals.as_slice(),
-            second.literals.as_slice(),
-            variable,
-        )?;
-        let parents = [first.number, second.number];
-        Ok(Some(Resolvent { literals, parents }))
+        let first = self.entries[index];
+        let second = self.entries[other];
+        let start = self.literals.len();
+        self.push_without(first, variable)?;
+        for place in second.start..second.end {
+            if let Some(literal) = self.literals.get(place).copied() {
+                if literal.variable != variable && !self.literals_of(&first).contains(&literal) {
+                    self.literals.push(literal)?;
+                }
+            }
+        }
+        self.derive(alloc, start, [first.number, second.number])
     }
 }

@@ -1,8 +1,8 @@
 //! Resolution: two clauses, one with a variable and one with its negation, give a third clause, their resolvent on this
 //! variable. The resolvent has all other literals of the two clauses, and follows from these clauses. In each list of literals
-//! that is given to a function here, the literals have different variables. Only `distinct` takes any list.
+//! that is given to a function here, the literals have different variables. Only `push_distinct` takes any list.
 use dd_clause::Literal;
-use std::alloc::{AllocError, Global};
+use std::alloc::AllocError;
 
 /// How one clause relates to another.
 #[derive(Clone, Copy)]
@@ -15,6 +15,14 @@ pub(crate) enum Relation {
     Unrelated,
 }
 
+/// The literals from index `start` up to `end`.
+pub(crate) fn part(literals: &[Literal], start: usize, end: usize) -> &[Literal] {
+    if start <= end && end <= literals.len() {
+        return &literals[start..end];
+    }
+    &[]
+}
+
 /// The literal of this variable, if there is one.
 fn literal_of(literals: &[Literal], variable: u32) -> Option<Literal> {
     for literal in literals {
@@ -25,23 +33,24 @@ fn literal_of(literals: &[Literal], variable: u32) -> Option<Literal> {
     None
 }
 
-/// The literals, each once. `None` if they hold a literal and its negation.
-pub(crate) fn distinct(
-    alloc: Global,
+/// Adds the literals, each once. Returns false, and adds none, if they hold a literal and its negation.
+pub(crate) fn push_distinct(
+    kept: &mut Vec<Literal>,
     literals: &[Literal],
-) -> Result<Option<Vec<Literal>>, AllocError> {
-    let mut kept: Vec<Literal> = Vec::with_capacity(alloc, literals.len())?;
+) -> Result<bool, AllocError> {
+    let start = kept.len();
     for literal in literals {
-        match literal_of(kept.as_slice(), literal.variable) {
+        match literal_of(part(kept.as_slice(), start, kept.len()), literal.variable) {
             None => kept.push(*literal)?,
             Some(other) => {
                 if other != *literal {
-                    return Ok(None);
+                    kept.truncate(start);
+                    return Ok(false);
                 }
             }
         }
     }
-    Ok(Some(kept))
+    Ok(true)
 }
 
 /// How many literals the resolvent of two clauses on a variable has. `None` if it holds a literal and its negation.
@@ -64,37 +73,6 @@ pub(crate) fn resolvent_length(
         }
     }
     Some(length)
-}
-
-/// The literals of two clauses, each once, without those of the variable.
-pub(crate) fn resolvent(
-    alloc: Global,
-    first: &[Literal],
-    second: &[Literal],
-    variable: u32,
-) -> Result<Vec<Literal>, AllocError> {
-    let mut literals = without(alloc, first, variable)?;
-    for literal in second {
-        if literal.variable != variable && !first.contains(literal) {
-            literals.push(*literal)?;
-        }
-    }
-    Ok(literals)
-}
-
-/// The literals without those of the variable.
-pub(crate) fn without(
-    alloc: Global,
-    literals: &[Literal],
-    variable: u32,
-) -> Result<Vec<Literal>, AllocError> {
-    let mut others: Vec<Literal> = Vec::with_capacity(alloc, literals.len())?;
-    for literal in literals {
-        if literal.variable != variable {
-            others.push(*literal)?;
-        }
-    }
-    Ok(others)
 }
 
 /// How the clause with the literals `literals` relates to the clause with the literals `others`.

@@ -82,7 +82,7 @@ impl Elimination {
         let mut numbers: Vec<u64> = Vec::new(alloc);
         for entry in self.entries.as_slice() {
             if entry.is_alive {
-                let clause = Clause::from_literals(alloc, entry.literals.as_slice())?;
+                let clause = Clause::from_literals(alloc, self.literals_of(entry))?;
                 if !cnf.is_in_range(&clause) {
                     return Ok(None);
                 }
@@ -115,7 +115,7 @@ impl Elimination {
     fn has_to_be_true(&self, eliminated: &Eliminated, values: &[bool]) -> bool {
         for index in eliminated.clauses.as_slice() {
             if let Some(entry) = self.entries.get(*index) {
-                if !has_other_true(entry.literals.as_slice(), eliminated.variable, values) {
+                if !has_other_true(self.literals_of(entry), eliminated.variable, values) {
                     return true;
                 }
             }

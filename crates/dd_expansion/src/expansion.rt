@@ -29,7 +29,7 @@ use std::alloc::{AllocError, Global};
 /// At most 65 variables are in scope: the free one, and those of at most 64 nested quantifiers. The cell of the free variable
 /// is at the origin. The cell of a bound variable lies at most 12 further from the origin, along each axis, than the cell of
 /// some variable before it, because a ball has a radius of at most 3 and an edge leads at most 4 along an axis. So the cells
-/// of n variables lie at most 12n from the origin along each axis.
+/// of n variables lie at most 12(n - 1) from the origin along each axis. The contracts ask only for 12n.
 #[derive(Clone, Copy)]
 struct Scope<'a> {
     alloc: Global,

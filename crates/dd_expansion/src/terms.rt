@@ -17,7 +17,7 @@ use dd_lattice::{Cell, LatticeFault, in_order};
 use dd_topology::Topology;
 use std::alloc::Global;
 
-/// The cell at the end of one move. `None` if no edge with this label leaves the cell's node.
+/// The cell at the end of one move. `None` if no edge with this label leaves the node of `from`.
 fn step(topology: &Topology, from: &Cell, label: u32) -> Option<Cell>
     requires near { extent from.now.position + 4 ≤ most_coordinate }
     ensures value { result ≡ step topology.now.edges from.now label }

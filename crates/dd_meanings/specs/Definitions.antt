@@ -1,5 +1,5 @@
--- What definitions mean, and which limits the counts of rules and automata exceed. x is the context of the command: the text of the script, and what
--- the script has said before the command.
+-- What definitions mean, and the limits that rules and automata exceed. x is the context of the command that makes the definition. It has the text of
+-- the script and what is known: what the commands before this one defined, with defaults for the rest.
 use Rattle.std.specs.Prelude.{ℕ, List, [], ◌∷◌, ◌++◌, map, not, Option, unwrap_or}
 use Rattle.std.specs.List.{slice_get}
 use Rattle.dd_pattern.specs.{Periods.periods_of as with_shear, Tile.Tile, Tile.tile}
@@ -42,8 +42,8 @@ abbrev pub configuration_periods : List ℕ → Vector → List ℕ
 configuration_periods bytes v = period_at bytes v 0 ∷ period_at bytes v 1 ∷ period_at bytes v 2 ∷ []
 
 -- A configuration, with the symbols of a box whose sides are the periods. The symbols are in cell order (by z, then y, then x, then the node). Copies
--- of the box fill the lattice. The shear is how far each copy is moved along the first axis from the copy before it along the second axis; it is 0 if
--- none is given.
+-- of the box fill the lattice. From one copy to the next along the second axis, the box also moves along the first axis, by the shear. The shear is 0
+-- if none is given.
 abbrev pub tile_of : Context → Vector → Option Vector → List Name → Tile
 tile_of x periods shear symbols =
     tile (dimension_of x.known) (with_shear (configuration_periods x.text periods) (shear_of x.text shear)) x.known.setting.topology.nodes (map (symbol_of x) symbols)

@@ -1,6 +1,6 @@
 -- Formulas, with numbers in place of names. A term, such as `o.rt.up`, is a variable followed by moves along edges. It names the cell to which the
--- moves lead. A ball has a variable as its centre, and a radius. Its cells are those at most that many edges away from the variable's cell. A scope
--- is the list of the bound variables, the outermost first. A chain is a list of formulas with the same connective between them.
+-- moves lead. A ball has a variable as its centre, and a radius r. Its cells are those that are at most r edges away from the variable's cell. A
+-- scope is the list of the bound variables, the outermost first. A chain is a list of formulas with the same connective between them.
 use Rattle.std.specs.Prelude.{ℕ, List, [], ◌∷◌, ◌++◌, map, unwrap_or, if◌then◌else◌}
 use Rattle.dd_meanings.specs.Tree.{Word, Name, Term as WrittenTerm, Comparand, Relation, Atom, Ball, Quantifier, Join, Formula as Written, Formula-F as Written-F, fold-Formula, Context}
 use Rattle.dd_written.specs.Values.{written_value}

@@ -1,5 +1,5 @@
--- What each command means, and the limits that the counts of a rule or an automaton exceed. The counts are the number of its instances, the cells
--- that it reads, and its depth. The limit on the cells is on how far away they are, not on their number.
+-- What each command means, and the limits that its rule or automaton exceeds: on the number of instances, on how far away the cells are that are
+-- read, or on the depth.
 use Rattle.std.specs.Prelude.{List, [], length, map, true, false, if◌then◌else◌}
 use Rattle.dd_meanings.specs.Tree.{Kind, Command, Fault, Context}
 use Rattle.dd_topology.specs.Builtin.{grid_of}
@@ -31,7 +31,7 @@ meaning x automata (Command.Composition name outer inner) = Meaning.Automaton na
 meaning x automata (Command.Configuration name periods shear symbols) = Meaning.Configuration name (tile_of x periods shear symbols)
 meaning x automata (Command.Query r) = Meaning.Query (query_of x r)
 
--- the limits that the counts of a command's rule or automaton exceed; these counts are known only when the rule or automaton is made
+-- the limits that a command's rule or automaton exceeds; this is known only when the rule or automaton is made
 abbrev pub counted_sizes : Context → List Automaton → Command → List Fault
 counted_sizes x automata (Command.Dimension n) = []
 counted_sizes x automata (Command.Nodes names) = []

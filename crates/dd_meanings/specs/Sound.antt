@@ -51,7 +51,7 @@ IsSoundMeaning x (Meaning.Automaton name f) = IsNew x name × IsAutomatonOf x.kn
 IsSoundMeaning x (Meaning.Configuration name t) = IsNew x name × IsConfigurationOf x.known.setting t
 IsSoundMeaning x (Meaning.Query q) = IsQueryWithin x.known q
 
--- The result is what the command means, and is sound; or the command is refused for the first limit that the counts of its rule or automaton exceed,
--- or because memory ran out.
+-- The result is what the command means, and is sound; or the command is refused for the first limit that its rule or automaton exceeds, or because
+-- memory ran out.
 abbrev pub Means : Result Meaning Refusal → Context → List Automaton → Command → Type 0
 Means result x automata c = Resolves result (counted_sizes x automata c) (meaning x automata c) × OnOk result (IsSoundMeaning x (meaning x automata c))

@@ -1,7 +1,7 @@
 //! Terms, atoms and balls, with numbers in place of names. A term, such as `o.rt.up`, is a variable followed by moves along
 //! edges. It names the cell to which the moves lead. An atom is a formula about one or two terms. A ball has a variable as its
-//! centre, and a radius. Its cells are those at most that many edges away from the variable's cell. A scope is the list of the
-//! bound variables, the outermost first.
+//! centre, and a radius r. Its cells are those that are at most r edges away from the variable's cell. A scope is the list of
+//! the bound variables, the outermost first.
 ghost use Rattle.std.specs.Prelude.{◌≡◌, ◌≤◌, [], length, map, IfOk};
 ghost use Rattle.std.specs.List.{flat_map};
 ghost use Rattle.dd_faults.specs.{Names.number_in, Formulas.names_symbol, Formulas.ball_faults};
@@ -114,8 +114,8 @@ fn not_equal(term: Term, side: Operand) -> Formula
     }
 }
 
-/// What an atom means in a scope. `@` says that two terms name the same cell. It becomes `Formula::Place`, because
-/// `Formula::Same` compares symbols.
+/// What an atom means in a scope. The sign `@`, which is `Relation::Same`, says that two terms name the same cell. It becomes
+/// `Formula::Place`, because `Formula::Same` compares symbols.
 pub(crate) fn atom(alloc: Global, context: &Context, scope: &[Word], atom: &Atom) -> Made<Formula>
     requires { length scope.now ≤ 64 }
     ensures { IfOk result (λ f. f ≡ atom_of context.now scope.now atom.now) }

@@ -32,8 +32,8 @@ pub fn refusal_of(fault: RuleFault) -> Refusal
     }
 }
 
-/// What a definition of a rule means: the rule made from its formula, over the script's topology and the symbols that the nodes
-/// allow.
+/// What a definition of a rule means: the rule made from its formula, over the script's topology and the symbols that the
+/// nodes allow.
 pub(crate) fn rule(alloc: Global, context: &Context, name: Word, formula: &Formula) -> Resolved
     requires sound { IsSound context.now.known }
     requires shallow { tree_depth formula.now ≤ 64 }
@@ -97,8 +97,8 @@ fn named(alloc: Global, context: &Context, automata: &[Automaton], word: Word) -
     automata[number as usize].copy(alloc)
 }
 
-/// What a definition of a composition means: the automaton that applies `inner` first, and then `outer`. Both are given by their
-/// names.
+/// What a definition of a composition means: the automaton that applies `inner` first, and then `outer`. Both are given by
+/// their names.
 pub(crate) fn composition(
     alloc: Global,
     context: &Context,
@@ -121,8 +121,8 @@ pub(crate) fn composition(
 }
 
 /// What a definition of a configuration means: the configuration with these periods, this shear and these symbols. The symbols
-/// fill a box whose sides are the periods, and copies of the box fill the lattice. The shear is how far each copy is moved
-/// along the first axis from the copy before it along the second axis.
+/// fill a box whose sides are the periods, and copies of the box fill the lattice. From one copy to the next along the second
+/// axis, the box also moves along the first axis, by the shear.
 pub(crate) fn configuration(
     alloc: Global,
     context: &Context,

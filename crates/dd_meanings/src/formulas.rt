@@ -1,7 +1,7 @@
 //! Formulas, with numbers in place of names. A scope is the list of the bound variables, the outermost first. The variable of
-//! a quantifier ranges over the cells of the quantifier's balls. A ball has a variable as its centre, and a radius. Its cells
-//! are those at most that many edges away from the variable's cell. A chain is a list of formulas with the same connective
-//! between them.
+//! a quantifier ranges over the cells of the quantifier's balls. A ball has a variable as its centre, and a radius r. Its
+//! cells are those that are at most r edges away from the variable's cell. A chain is a list of formulas with the same
+//! connective between them.
 ghost use Rattle.std.specs.Prelude.{◌≡◌, ◌+◌, ◌≤◌, [], length, IfOk};
 ghost use Rattle.dd_written.specs.Formulas.{tree_depth};
 ghost use Rattle.dd_faults.specs.Formulas.{formula_faults};

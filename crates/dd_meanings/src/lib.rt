@@ -4,14 +4,14 @@
 //! given by cases, or it is the composition of two automata.
 //!
 //! The commands of a script's header come first. They give a topology, the names of nodes and symbols, the symbols that a node
-//! allows, the weights of symbols, and the limits of the searches. The commands after the header define rules, automata and
-//! configurations, and ask queries. A rule or an automaton is refused here if it has too many instances (roughly, the parts of
-//! its formulas once these are written without variables), reads a cell that is too far away, or is too deep (nests too many
-//! compositions).
+//! allows, the weights of symbols, and the limits on the work for one answer. The commands after the header define rules,
+//! automata and configurations, and ask queries. A rule or an automaton is refused here if it has too many instances (roughly,
+//! the parts of its formulas once these are written without variables), reads a cell that is too far away, or is too deep
+//! (nests too many compositions).
 //!
 //! The context of a command has the text of the script and what is known: what the commands before it defined, with defaults
-//! for the rest. The setting is the part of what is known over which rules and automata are made: the nodes, the symbols, the
-//! topology, and which symbols each node allows.
+//! for the rest. The setting is a part of what is known: the nodes, the symbols, the topology, and which symbols each node
+//! allows. Rules and automata are made over it.
 #![tactic(auto, using(crate::proofs::Nothing::parts))]
 
 mod atoms;

@@ -28,7 +28,7 @@ pub enum Meaning {
     },
     /// The weight of each symbol.
     Weights(Items<u32>),
-    /// The limits of the searches, for all queries that follow.
+    /// The limits on the work for one answer, for all queries that follow.
     Limits(Limits),
     /// A rule with its name.
     Rule {

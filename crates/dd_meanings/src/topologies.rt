@@ -1,4 +1,5 @@
-//! The topologies of scripts: the default ones, the built-in ones, and those given by edges.
+//! The topology that a script has until it gives one, the names of nodes that come with a built-in topology, and the
+//! topologies given by edges.
 ghost use Rattle.std.specs.Prelude.{◌≡◌, ◌≤◌, [], length, map, IfOk};
 ghost use Rattle.std.specs.List.{flat_map};
 ghost use Rattle.dd_topology.specs.Grid.{grid};
@@ -30,8 +31,8 @@ fn plain_kind(dimension: u32) -> Kind
     }
 }
 
-/// The topology of a script that gives none. With one node it is `line`, `square` or `cube`, by the dimension. With more nodes it
-/// has no edges.
+/// The topology that a script has until it gives one. With one node it is `line`, `square` or `cube`, by the dimension. With
+/// more nodes it has no edges, and the script has to give a topology.
 pub(crate) fn default_topology(alloc: Global, dimension: u32, nodes: u32) -> Made<Topology>
     requires dimension { (1 ≤ dimension) × (dimension ≤ 3) }
     requires nodes { 1 ≤ nodes }
@@ -101,7 +102,7 @@ fn edges_of(
     Ok(edges)
 }
 
-/// What the command that gives a topology by its edges means. The labels are numbered in order of first occurrence.
+/// The meaning of the command that gives a topology by its edges. The labels are numbered in order of first occurrence.
 pub(crate) fn edges(alloc: Global, context: &Context, edges: &[Written]) -> Resolved
     requires sound { IsSound context.now.known }
     requires faultless { faults_of context.now (command.Edges edges.now) ≡ [] }

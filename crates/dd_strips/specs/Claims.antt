@@ -34,6 +34,6 @@ abbrev pub greatest_potential : List ℤ → ℤ
 greatest_potential [] = pos 0
 greatest_potential (p ∷ ps) = fold int_max p ps
 
--- the spread of the potentials: the greatest less the least
+-- the spread of the potentials: the difference between the greatest and the least
 abbrev pub spread_of : List ℤ → ℕ
 spread_of ps = unsigned_abs (greatest_potential ps -ℤ least_potential ps)

@@ -1,6 +1,6 @@
 -- Fillings of the slices of a strip, configurations that repeat with the strip's periods along the axes after the first, and their least density. A
--- cell is a position together with one of its nodes. A slice consists of the strip's cells with one value of x. A look gives each cell a symbol, or
--- none.
+-- cell is a position together with one of its nodes. A slice consists of all cells with one value of x, whatever their y and z. A look gives each
+-- cell a symbol, or none.
 use Rattle.std.specs.Prelude.{◌≡◌, ℕ, ◌*◌, ◌<◌, ◌≤◌, ◌&&◌, Bool, ℤ, pos, ◌+ℤ◌, int_le, int_lt, nat_lt, is_some, List}
 use Rattle.dd_lattice.specs.declared.position.Cell.{Cell}
 use Rattle.dd_pattern.specs.{Reading.Look, Periods.periods_volume, Tile.Tile, Tile.IsTile, Weight.total_weight}
@@ -9,7 +9,7 @@ use Rattle.dd_boxes.specs.Fillings.{Admissible}
 use Rattle.dd_strip.specs.declared.strip.Strip.{Strip}
 use Rattle.dd_transfer.specs.Slices.{RepeatsAcross, symbols_from}
 
--- whether the cell lies in the k slices from x on
+-- whether the cell lies in the k slices from x on, and has one of the rule's nodes
 abbrev pub is_slice_cell : LocalRule → ℤ → ℕ → Cell → Bool
 is_slice_cell r x k c = int_le x c.position.x && int_lt c.position.x (x +ℤ pos k) && nat_lt c.node r.nodes
 
@@ -20,17 +20,18 @@ pub record IsStripFilling (r : LocalRule) (s : Strip) (x : ℤ) (k : ℕ) (look 
   pub repeats : RepeatsAcross s look
   pub allowed : AreAllowed r look
 
--- an admissible filling: the rule is true at each cell that lies in the filling together with all cells that the rule reads there
+-- an admissible filling: the rule is true at each cell for which the filling has a symbol, both for the cell itself and for each cell read there
 pub record IsAdmissibleStrip (r : LocalRule) (s : Strip) (x : ℤ) (k : ℕ) (look : Look) : Type 0 where
   pub filling : IsStripFilling r s x k look
   pub admissible : Admissible r look
 
--- the weight of the n slices from x on; a cell without a symbol counts as one with the symbol 0
+-- the weight of the n slices from x on, where cells that are the same up to the strip's periods count once; a cell without a symbol counts as one
+-- with the symbol 0
 abbrev pub slices_weight : Strip → List ℕ → Look → ℤ → ℕ → ℕ
 slices_weight s ws look x n = total_weight ws (symbols_from s look x n)
 
--- The configuration lives on the strip: it obeys the rule everywhere, has allowed symbols and the strip's periods along the axes
--- after the first, any period along the first, and no shear.
+-- The configuration lives on the strip: it obeys the rule everywhere, and all its symbols are allowed. Along each axis after the first, its period is
+-- the strip's. Along the first axis it has some period, and it has no shear.
 pub record LivesOnStrip (r : LocalRule) (s : Strip) (t : Tile) : Type 0 where
   pub tile : IsTile t
   pub fits : Fits r t

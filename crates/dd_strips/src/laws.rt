@@ -13,11 +13,12 @@ ghost use Rattle.dd_strips.specs.Claims.{StripLeast, StripEmpty, spread_of};
 use dd_transfer::slices_are_walks;
 
 /// Does nothing. Its contract says what a closed walk and potentials show:
-/// - The walk's mean is its weight divided by its length. Divided by the number of positions in a slice, this mean is the least
-///   density of all configurations that live on the strip. A density is a weight per position.
-/// - Let `m / l` be the mean in lowest terms, and let the spread be the greatest potential less the least. In an admissible
-///   filling with `j` slices more than a state has, the last `j` slices weigh at least `(m * j - spread) / l`. A filling is
-///   admissible if the rule is true at each cell that lies in it together with all cells that the rule reads there.
+/// - The walk's mean (its weight divided by its length), divided by the number of positions in a slice, is the least density
+///   of all configurations that live on the strip. A density is a weight per position.
+/// - Let `m / l` be the mean in lowest terms, and let the spread be the difference between the greatest and the least
+///   potential. In an admissible filling with `j` slices more than a state has, the last `j` slices weigh at least
+///   `(m * j - spread) / l`. A filling is admissible if the rule is true at each cell for which it has a symbol, both for the
+///   cell itself and for each cell that the rule reads there.
 pub fn strip_least()
     ensures { (r : LocalRule) (periods ws : List ℕ) (p q : ℕ) (walk : List ℕ) (ps : List ℤ) → IsRule r → IsStrip r periods →
         (c : IsDensityCertificate r (strip_for r periods) ws p q walk ps) → StripLeast r (strip_for r periods) ws p q c.l c.m (spread_of ps) }
@@ -34,8 +35,8 @@ pub fn strip_empty()
     slices_are_walks();
 }
 
-/// Does nothing. Its contract says that a rule has at most one least density on a strip, with given weights: two fractions in
-/// lowest terms that are both this density are the same.
+/// Does nothing. Its contract says that a rule has at most one least density on a strip, with given weights: if two fractions
+/// in lowest terms are both this density, they have the same numerator and the same denominator.
 pub fn one_density()
     ensures { (r : LocalRule) (s : Strip) (ws : List ℕ) (p q a b : ℕ) → IsLeastDensity r s ws p q → IsLeastDensity r s ws a b →
         IsGcd p q 1 → IsGcd a b 1 → (p ≡ a) × (q ≡ b) }

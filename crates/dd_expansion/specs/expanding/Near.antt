@@ -1,4 +1,4 @@
--- How far cells lie from the origin. The extent of a position or an offset is the greatest absolute value of its coordinates.
+-- How far cells lie from the origin. The extent of a position is the greatest absolute value of its coordinates.
 use Rattle.std.specs.{Prelude.ℕ, Prelude.◌≤◌, Prelude.List, List.All}
 use Rattle.dd_lattice.specs.declared.position.Cell.{Cell}
 use Rattle.dd_topology.specs.Topology.{extent}

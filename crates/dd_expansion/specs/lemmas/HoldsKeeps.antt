@@ -1,4 +1,4 @@
--- The truth of an expansion depends only on the symbols at its leaves.
+-- The truth of an expansion depends only on the symbols that the cells of its leaves are given.
 use Rattle.std.proofs.Common.{◌≡◌, ℕ, Bool, true, List, [], ◌∷◌, map, refl, ap}
 use Rattle.std.proofs.lemmas.Bool.{and_parts}
 use Rattle.std.specs.{Prelude.not, Prelude.is_some, List.list_all, List.list_any}

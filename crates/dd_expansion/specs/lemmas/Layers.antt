@@ -1,4 +1,5 @@
--- Functions that are defined as folds over trees: the value at a tree with a list of parts, or at a quantifier, from the values at the parts.
+-- Laws of functions that are defined as folds over trees. They give the value at a conjunction or disjunction from the values at its parts, and the
+-- expansion of a quantifier from the expansions of its body.
 use Rattle.std.proofs.Common.{◌≡◌, ℕ, ◌+◌, length, Bool, List, [], ◌∷◌, ◌++◌, map, refl, ap, sym, ◌∙◌}
 use Rattle.std.proofs.lemmas.List.{length-map, Folds.list_all-map, Folds.flat_map-map}
 use Rattle.std.proofs.lemmas.{List.Sums.sum_by-cons, List.Sums.sum-map, Simd.map-map}

@@ -85,7 +85,7 @@ leaves_both = ind-Expanded Joins (λ x y is p q.
       ← is,
     ) (step_joins y p q))
 
--- the leaves pass a test that looks only at their cells exactly when each cell of the list `leaf_cells` passes it
+-- for a test that looks only at a leaf's cell: the leaves pass the test exactly when each cell of the list `leaf_cells` passes it
 abbrev TestsCells : Expanded → Type 0
 TestsCells e = (test : Cell → Bool) → leaves_pass (λ c s. test c) e ≡ list_all test (leaf_cells e)
 

@@ -54,8 +54,8 @@ module _ (test : LeafTest) where
       ∙ (list_all-map (leaves_pass test) (both_have c d) (range_with_len 0 n)
       ∙ list_all-alike (λ s. leaves_pass test (both_have c d s)) (λ s. test c s && (test d s && true)) (leaves_of_pair c d) (range_with_len 0 n))
 
-  -- the parts of a quantifier's expansion are made for the cells in cell order, without repeats; all leaves of these parts pass the test exactly
-  -- when all leaves of the body's expansion at each cell of the list `cs` pass it
+  -- A quantifier's expansion has one part for each cell of the list `cs`, in cell order, without repeats. All leaves of these parts pass the test
+  -- exactly when, for each cell of `cs`, all leaves of the body's expansion there pass it.
   leaves_of_each : (f : Expansion) (env cs : List Cell) → list_all (leaves_pass test) (map (λ c. f (env ++ c ∷ [])) (in_order cs)) ≡ list_all (λ c. leaves_pass test (f (env ++ c ∷ []))) cs
   leaves_of_each f env cs =
       list_all-map (leaves_pass test) (λ c. f (env ++ c ∷ [])) (in_order cs) ∙ list_all-in_order (λ c. leaves_pass test (f (env ++ c ∷ []))) cs

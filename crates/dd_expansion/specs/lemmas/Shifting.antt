@@ -1,4 +1,4 @@
--- A formula is true at cells moved by v exactly when it is true at the cells themselves in the configuration moved by -v.
+-- A formula is true at cells moved by v exactly when it is true at the cells themselves once the symbols of all cells are moved by -v.
 use Rattle.std.proofs.Common.{◌≡◌, ℕ, zero, suc, Bool, true, false, List, [], ◌∷◌, ◌++◌, map, refl, ap, sym, ◌∙◌, Some, None, arith, ℤ, ◌+ℤ◌, cond}
 use Rattle.std.proofs.lemmas.{Int.ints, Bool.Decides.Decides-int_eq, List.map-append}
 use Rattle.std.proofs.lemmas.{List.Folds.list_all-map, List.Folds.flat_map-map, Option.slice_get-map}
@@ -25,8 +25,8 @@ option_map_both : {A B C : Type 0} (f : B → C) (g : A → B) (h : A → C) (sa
 option_map_both f g h same None = refl
 option_map_both f g h same (Some a) = ap Some (same a)
 
--- If a cell is moved by v, so are the cells to which edges and moves lead from it, the cells from which edges lead to it, and the cells of the balls
--- round it. If two cells are moved by v, whether they are adjacent, and whether they are the same, stays as it was.
+-- If a cell is moved by v, so is each cell that edges or a term's moves lead to from it, each cell from which an edge leads to it, and each cell of
+-- the balls round it. Moving two cells by v changes neither whether they are adjacent nor whether they are the same.
 module _ (v : Place) where
   pub end_of_shifted : (c : Cell) (e : Edge) → end_of (shifted v c) e ≡ shifted v (end_of c e)
   end_of_shifted c e = ap (λ p. cell p e.to) (moved_both c.position v e.offset)
@@ -136,7 +136,7 @@ module _ (v : Place) where
 abbrev Shifts : List Edge → Formula → Type 0
 Shifts es f = (v : Place) (env : List Cell) (look : Look) → truth es f (map (shifted v) env) look ≡ truth es f env (λ c. look (shifted v c))
 
--- the configuration moved by -v
+-- the symbols of all cells, moved by -v
 abbrev back : Place → Look → Look
 back v look c = look (shifted v c)
 

@@ -1,5 +1,6 @@
--- The expansion at the origin, given the symbols of cells relative to some cell's position, has the truth value of the formula at that cell. If each
--- cell that is read has a symbol as seen from there, the same holds with the symbols as seen from there.
+-- The truth of a formula at a cell, from its expansion at the origin. If each cell d gets the symbol that d moved by v has, the expansion has the
+-- truth value of the formula at the cell at v. With `seen`, d gets no symbol if d moved by v is out of range. Then this holds as well, if the cell
+-- of each leaf gets a symbol.
 use Rattle.std.proofs.Common.{◌≡◌, ◌≤◌, ℕ, Bool, true, false, List, [], ◌∷◌, refl, ap, sym, ◌∙◌, Some, None, cond}
 use Rattle.std.proofs.lemmas.Bool.{cond_both}
 use Rattle.std.specs.{Prelude.is_some, List.list_all}
