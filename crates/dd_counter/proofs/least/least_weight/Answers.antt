@@ -3,8 +3,8 @@ use Rattle.dd_pattern.specs.Periods.{periods_of}
 use Rattle.dd_counter.specs.lemmas.{Light.least_shown, Rooms.room_at, Rooms.weights_known}
 use Rattle.dd_counter.proofs.least.least_weight.Goals as goal
 
-pub search_below-requires-in-loop-weight-clause-count : goal.search_below-requires-in-loop-weight-clause-count
-search_below-requires-in-loop-weight-clause-count c =
+pub search_below-requires-clause-count : goal.search_below-requires-clause-count
+search_below-requires-clause-count c =
     room_at c.args.rule.now (periods_of c.args.periods 0) c.args.weights.now c.loop-weight.found c.loop-weight.weight 2000000 c.loop-weight.invariant.lives c.loop-weight.invariant.weighs
     c.requires.count
 
