@@ -1,7 +1,8 @@
 #!/usr/bin/env python3
 """Times least weights of tori: compare.py PROGRAM. For each a line with the answer, the seconds of processor time of diddy's run and of its check, and
-of MiniSat and of CaDiCaL, where they are installed, on the two lists that decide: the one that is refuted and the one before it. The clauses are made
-by the companion. The words behind PROGRAM are names of scripts in this file; without them all are timed."""
+of MiniSat and of CaDiCaL, where they are installed, on the two lists that decide: the one that is refuted and the one before it. Each time is the
+least of eight runs, or of one run if it takes more than a second. The clauses are made by the companion. The words behind PROGRAM are names of scripts
+in this file; without them all are timed."""
 import pathlib
 import resource
 import shutil
@@ -30,12 +31,20 @@ SCRIPTS = {
 }
 
 
-def timed(words: "list[str]", given: bytes = b"") -> "tuple[float, bytes]":
-    """The processor time of a command, and what it writes."""
+def timed_once(words: "list[str]", given: bytes) -> "tuple[float, bytes]":
+    """The processor time of one run of a command, and what it writes."""
     before = resource.getrusage(resource.RUSAGE_CHILDREN)
     done = subprocess.run(words, input=given, capture_output=True)
     after = resource.getrusage(resource.RUSAGE_CHILDREN)
     return after.ru_utime + after.ru_stime - before.ru_utime - before.ru_stime, done.stdout
+
+
+def timed(words: "list[str]", given: bytes = b"") -> "tuple[float, bytes]":
+    """The least processor time of eight runs, or of one run if it takes more than a second, and what the command writes."""
+    least, output = timed_once(words, given)
+    if least <= 1:
+        least = min([least] + [timed_once(words, given)[0] for _ in range(7)])
+    return least, output
 
 
 def solved(solver: str, clauses: Clauses) -> float:
@@ -55,8 +64,8 @@ def main() -> None:
         line = next(line for line in output.split(b"\n") if line.startswith(b"query 1 "))[8:].decode()
         check, _ = timed([program, "check"], output)
         torus, least = accept(script).queries[0].torus(), int(line.split()[1])
-        cells = [f"{sum(solved(solver, torus.clauses(below)) for below in (least, least + 1)):.2f}" for solver in SOLVERS]
-        print("| " + " | ".join([name, line, f"{len(output):,}", f"{own:.2f}", f"{check:.3f}", *cells]) + " |", flush=True)
+        cells = [f"{sum(solved(solver, torus.clauses(below)) for below in (least, least + 1)):.3f}" for solver in SOLVERS]
+        print("| " + " | ".join([name, line, f"{len(output):,}", f"{own:.3f}", f"{check:.3f}", *cells]) + " |", flush=True)
 
 
 main()

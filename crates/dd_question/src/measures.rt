@@ -10,13 +10,14 @@ use dd_counts::{broken_clauses, differ_clauses};
 use dd_formula::{Automaton, Rule};
 use std::alloc::{AllocError, Global};
 
-/// The limit on the number of a question's clauses. The number that is compared with it is an upper bound.
+/// The limit on the number of a question's clauses. An upper bound of this number is compared with the limit.
 pub const MOST_CLAUSES: u32 = 2_000_000;
 
 /// The measure of a goal.
 #[derive(Clone, Copy)]
 pub(crate) struct Measure {
-    /// How far from the origin, along any axis, the farthest cell lies that the goal reads at the origin.
+    /// How far the goal reads at the origin: the greatest distance along an axis from the origin to a cell that the goal reads
+    /// there. 0 if it reads none.
     pub(crate) radius: u32,
     /// How many clauses it takes to say that the goal holds at the origin, or `MOST_CLAUSES + 1` if there are more than
     /// `MOST_CLAUSES`.

@@ -197,7 +197,7 @@ fn is_near(vector: &Position) -> bool
         && vector.z.unsigned_abs() <= FARTHEST
 }
 
-/// Whether amounts may be given along the vector.
+/// Whether a discharge may have the vector: it is at most 4 long along each axis, and 0 along the axes past the dimension.
 fn is_vector(dimension: u32, vector: &Position) -> bool
     ensures { IsTrue result ↔ IsVector dimension vector.now }
 {
@@ -221,7 +221,7 @@ fn are_apart(vectors: &[Position]) -> bool
     }
 }
 
-/// Whether amounts may be given along each of the vectors.
+/// Whether a discharge may have each of the vectors (see `is_vector`).
 fn are_short(dimension: u32, vectors: &[Position]) -> bool
     ensures { IsTrue result ↔ All (IsVector dimension) vectors.now }
 {

@@ -1,5 +1,5 @@
--- If a list of faults is empty, so is each part of it, and no condition that would put a fault in it holds. If a list has no first fault of the
--- lowest rank, it is empty.
+-- If a list of faults is empty, so is each part of it, and each condition under which it would have a fault is false. If a list has no first fault of
+-- the lowest rank, it is empty.
 use Rattle.std.proofs.Common.{◌≡◌, ℕ, ◌<◌, Bool, true, false, List, [], ◌∷◌, ◌++◌, length, None, Some, refl, arith}
 use Rattle.std.specs.List.{All, flat_map}
 use Rattle.std.proofs.lemmas.{List.Elements.All-nil, List.Elements.All-cons, Grind.common_steps}

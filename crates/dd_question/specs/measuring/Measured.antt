@@ -5,7 +5,7 @@ use Rattle.dd_boxes.specs.{Goals.GoalOf, Counts.goal_clauses, Counts.most_clause
 use Rattle.dd_question.specs.declared.measures.Measure.{Measure}
 
 -- The measure of the goal is m, and the goal reads no farther than `most_reach`. If it takes more than `most_clauses` clauses to say that the goal
--- holds, m has `most_clauses + 1` as their number.
+-- holds at the origin, `m.clauses` is `most_clauses + 1`.
 pub record IsMeasureOf (m : Measure) (g : GoalOf) : Type 0 where
   pub radius : m.radius ≡ goal_reach g
   pub near : m.radius ≤ most_reach
