@@ -156,7 +156,7 @@ impl<'a> LocalSearch<'a> {
     }
 
     /// Gives each cell in turn the lightest allowed symbol under which the rule stays true everywhere. The rule has to be true
-    /// at each cell when the call begins. From then on, the search may again cost as much as its patience, but no more than
+    /// at each cell when the call begins. After the call, the search may again cost as much as its patience, but no more than
     /// what is left of the budget.
     fn lighten_all(&mut self) {
         for cell in 0..self.symbols.len() {

@@ -17,7 +17,7 @@ pub record IsRun {S K : Type 0} (source : Change S) (sink : Change K) (status : 
   -- What the status says about the bytes of the source, if these are known (see `Sides`). If all queries were answered, the bytes are a script, and
   -- the status says whether some query has no definite answer. If the bytes were refused, they aren't a script or are too long.
   pub decided : (bytes : List ℕ) → source.bytes_old ≡ Some bytes → DecidesStatus bytes status
-  -- At most one byte more than a script may have is taken from the source.
+  -- At most `most_script` + 1 bytes are taken from the source.
   pub taken : GivesAtMost source.bytes_old source.bytes_new (most_script + 1)
 
 -- A check reads an output from the source, and writes to the sink whether the answer to each query is accepted.
@@ -28,7 +28,7 @@ pub record IsCheck {S K : Type 0} (source : Change S) (sink : Change K) (status 
   -- certificates. If they were rejected, they are an output in which an answer is missing, is one too many, or isn't a certificate. If they were
   -- refused, they aren't an output with a script, or are too long.
   pub decided : (bytes : List ℕ) → source.bytes_old ≡ Some bytes → CheckDecides bytes status
-  -- At most one byte more than an output may have is taken from the source.
+  -- At most `most_checked` + 1 bytes are taken from the source.
   pub taken : GivesAtMost source.bytes_old source.bytes_new (most_checked + 1)
 
 -- The run of a sample writes the first line of a right answer to each query of the sample script with this number.

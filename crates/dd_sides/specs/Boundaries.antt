@@ -18,8 +18,8 @@ abbrev pub outer_count : ℕ → ℕ → Place → ℕ
 outer_count d n v = n ^ d - inner_count d n v
 
 -- The boundary term: the sum, over the vectors, of the greatest amount along the vector times `outer_count`. What a position gives along a vector
--- depends on the pattern around it (the symbols of a box). `patterns` is the number of patterns. `amounts` has one amount for each pattern along the
--- first vector, then along the second, and so on.
+-- depends on its pattern: the symbols of a box around the position. `patterns` is the number of patterns. `amounts` has one amount for each pattern
+-- along the first vector, then along the second, and so on.
 abbrev pub boundary : ℕ → ℕ → ℕ → List Place → List ℕ → ℕ
 boundary d n patterns [] amounts = 0
 boundary d n patterns (v ∷ vs) amounts = greatest (take patterns amounts) * outer_count d n v + boundary d n patterns vs (drop patterns amounts)

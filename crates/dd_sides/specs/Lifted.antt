@@ -11,9 +11,9 @@ use Rattle.dd_discharge.specs.{declared.bound.Bound.Bound, Amounts.held_over}
 use Rattle.dd_sides.specs.{Sides.IsSideFilling, Sides.side_weight, Boundaries.boundary}
 
 -- How far the ground around a position reaches: the radius of the patterns, plus the margin, plus the greatest absolute value of an entry of a
--- vector. What a position gives depends on the pattern around it (the symbols of a box). The ground has the boxes of the patterns' radius around the
--- position and around those that give to it, grown by the margin. For each of its admissible fillings there is a row, a linear inequality: the bound,
--- plus what the position gives, is at most the position's weight plus what it receives.
+-- vector. What a position gives depends on its pattern: the symbols of the box around it that has the patterns' radius. The ground consists of these
+-- boxes around the position and around those that give to it, grown by the margin. For each of its admissible fillings there is a row, a linear
+-- inequality: the bound, plus what the position gives, is at most the position's weight plus what it receives.
 abbrev pub reach_of : ℕ → ℕ → List Place → ℕ
 reach_of radius margin vs = radius + margin + greatest (map extent vs)
 

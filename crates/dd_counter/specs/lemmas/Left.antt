@@ -108,7 +108,7 @@ rows_few ws below k end start now before most left within few =
     let e = length-append first.gates rest.gates in
     omega (arith, all, e, few)
 
--- The member for a symbol that doesn't weigh more than t alone. In `member_none` the row before has no signal at t - w, and in `member_some` it has
+-- The member for a symbol that alone weighs at most t. In `member_none` the row before has no signal at t - w, and in `member_some` it has
 -- one.
 pub member_none : (from : Signal) (w t : ℕ) (before : List Signal) (n : ℕ) → w ≤ t → slice_get before (t - w) ≡ None → member from w t before n ≡ making [] []
 member_none from w t before n h is = ap (λ b. member_by from b (slice_get before (t - w)) n) (le-ltb t w h) ∙ ap (λ o. member_by from false o n) is

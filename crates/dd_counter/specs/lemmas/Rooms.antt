@@ -1,6 +1,6 @@
--- Facts about tori and living configurations. A torus has at least one cell. Each symbol of a living configuration has a weight. Suppose that
--- `weight_count` is within a limit if the bound on the weight is the number of cells times the greatest weight of a symbol. Then it is within this
--- limit if the bound on the weight is the weight of a living configuration.
+-- Facts about tori and living configurations. A torus has at least one cell. Each symbol of a living configuration has a weight. Take the
+-- number of cells times the greatest weight of a symbol as the bound on the weight. If `weight_count` is then within a limit, it is also within this
+-- limit if the weight of a living configuration is taken as the bound.
 use Rattle.std.proofs.Common.{◌≡◌, ℕ, ◌*◌, ◌<◌, ◌≤◌, List, length, ap, sym, subst, arith}
 use Rattle.std.proofs.lemmas.Nat.{mul-le}
 use Rattle.std.specs.List.{All}

@@ -67,8 +67,8 @@ shifted_down d r a b g h k e is le up =
 far : (n m : ℕ) (b a : ℤ) (g h : ℤ → ℕ) (k e : ℕ) → n ≤ m → ((c : ℤ) → g c ≤ e) → axis_sum n b g + (n - m) * k ≤ axis_sum n a h + n * e
 far n m b a g h k e le up = let z : n - m ≡ 0 = omega arith in rw z (omega (arith, axis_most n b g e up))
 
--- The step from one axis to the next. Let g be at most e, and g + k at most h + e, at each coordinate. Then the sum of g over the run moved by -s,
--- plus k times max(0, n - |s|), is at most the sum of h over the run, plus e times n.
+-- What `box_shifted` uses for each axis in turn. Let g be at most e, and g + k at most h + e, at each coordinate. Then the sum of g over the run
+-- moved by -s, plus k times max(0, n - |s|), is at most the sum of h over the run, plus e times n.
 pub axis_shifted : (n : ℕ) (a s : ℤ) (g h : ℤ → ℕ) (k e : ℕ) → ((c : ℤ) → g c + k ≤ h c + e) → ((c : ℤ) → g c ≤ e) →
     axis_sum n (a -ℤ s) g + (n - unsigned_abs s) * k ≤ axis_sum n a h + n * e
 axis_shifted n a (pos d) g h k e le up = elim (cases_lt d n) [
