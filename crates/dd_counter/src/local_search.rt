@@ -10,6 +10,7 @@
 //!
 //! No contract depends on this search: its result is checked afterwards. No invariant says that the indices kept here are
 //! within their lists. So the code tests each index, even where the test can't fail.
+use crate::remembered::Remembered;
 use crate::torus_rule::TorusRule;
 use dd_formula::Rule;
 use std::alloc::{AllocError, Global};
@@ -41,6 +42,8 @@ pub(crate) struct LocalSearch<'a> {
     rule: &'a Rule,
     torus: &'a TorusRule,
     weights: &'a [u32],
+    /// Where the rule was found to be true or false.
+    remembered: Remembered,
     symbols: Vec<u32>,
     /// The sum of the weights of the symbols.
     weight: u64,
@@ -82,6 +85,7 @@ impl<'a> LocalSearch<'a> {
             rule,
             torus,
             weights,
+            remembered: Remembered::new(alloc, torus, rule.symbols())?,
             symbols: Vec::from_slice(alloc, symbols)?,
             weight,
             falses: Vec::with_capacity(alloc, count)?,
@@ -285,7 +289,7 @@ impl<'a> LocalSearch<'a> {
         let mut growth = 0i64;
         for reader in torus.readers(cell) {
             self.pay(torus.cost(*reader));
-            let is_true = torus.is_true(*reader, self.symbols.as_slice());
+            let is_true = self.is_true(*reader);
             let was_false = self.was_false(*reader);
             if was_false && is_true {
                 growth = growth.saturating_sub(self.penalty(*reader));
@@ -295,6 +299,12 @@ impl<'a> LocalSearch<'a> {
         }
         self.put(cell, old);
         growth
+    }
+
+    /// Whether the rule is true at a cell.
+    fn is_true(&mut self, cell: usize) -> bool {
+        self.remembered
+            .is_true(self.torus, cell, self.symbols.as_slice())
     }
 
     /// Writes a cell's symbol, and changes nothing else.
@@ -315,7 +325,7 @@ impl<'a> LocalSearch<'a> {
             self.changed[cell] = self.step;
         }
         for reader in torus.readers(cell) {
-            let is_false = !torus.is_true(*reader, self.symbols.as_slice());
+            let is_false = !self.is_true(*reader);
             if is_false != self.was_false(*reader) {
                 self.note(*reader, is_false)?;
             }

@@ -1,1 +1,3 @@
+pub mod Names
 pub mod Refuting
+pub mod Renaming

@@ -1,7 +1,7 @@
 -- A refutation of the reduced list gives one of the whole list.
 use Rattle.std.proofs.Common.{◌≡◌, ℕ, zero, suc, ◌+◌, ◌-◌, ◌<◌, ◌≤◌, ◌^◌, true, ◌&&◌, List, [], ◌∷◌, ◌++◌, map, Option, Some, None, refl, ap, sym, ◌∙◌, subst, length, get_or, arith}
 use Rattle.std.proofs.lemmas.Bool.{and_parts, and_from, false≢true}
-use Rattle.std.proofs.lemmas.List.{map-append, append_assoc, append-nil}
+use Rattle.std.proofs.lemmas.{List.map-append, List.append_assoc, List.append-nil, List.length-map, Simd.map-map}
 use Rattle.std.specs.Prelude.{replicate, MatchOption}
 use Rattle.dd_clause.specs.declared.clause.Literal.{Literal}
 use Rattle.dd_derivation.specs.declared.step.Step.{Step}
@@ -11,7 +11,9 @@ use Rattle.dd_values.specs.lemmas.Booleans.{lt_yes, lt_no}
 use Rattle.dd_solver.specs.searching.{Marking.kept_step, Search.all_known, Search.after_step, Search.known_through, Search.is_derived}
 use Rattle.dd_solver.specs.lemmas.{Forcing.same_finding, Known.Known, Known.at, Known.length-all, Known.all_alive, Steps.refutes_after}
 use Rattle.dd_solver.specs.lemmas.Renumbering.{SaysTheSame, Agree, refutes_renamed}
-use Rattle.dd_elimination.specs.Reductions.{whole_number, HaveSameLiterals, IsNamed, AreNamed, IsReduction}
+use Rattle.dd_elimination.specs.Reductions.{whole_number, whole_step, HaveSameLiterals, IsNamed, AreNamed, IsReduction}
+use Rattle.dd_elimination.specs.Renaming.{new_name, renamed, renamed_step}
+use Rattle.dd_elimination.proofs.{Renaming.refutes_renaming, Names.is_renaming}
 
 -- No step of a derivation deletes a clause. So each step is right, given the clauses that are known after the steps before it, and after the steps
 -- their clauses are known too.
@@ -62,16 +64,27 @@ agree known numbers reduced before a (suc h) c k e =
     let w : whole_number numbers before (suc h) ≡ get_or numbers h 0 = rw (lt_no (length numbers) (suc h) m, lt_yes 0 (suc h) (omega arith), p) refl in
     rw w (named_says known (get_or numbers h 0) c (subst (IsNamed known (get_or numbers h 0)) r.1 (a.named h r.0)))
 
--- the search's steps with new numbers, after the steps of the elimination, refute the whole list
-pub reduction_refutes : (n : ℕ) (clauses : List (List Literal)) (steps : List Step) (reduced : List (List Literal)) (numbers : List ℕ) (found : List Step) → IsReduction n clauses steps reduced numbers → refutes n reduced found ≡ true → length clauses + (length steps + length found) < 2 ^ 64 → refutes n clauses (steps ++ map (kept_step (whole_number numbers (length clauses + length steps))) found) ≡ true
-reduction_refutes n clauses steps reduced numbers found a r few =
+-- the search's steps with new numbers, after the steps of the elimination, refute the whole list, if the clauses of the reduced list are named as
+-- they are
+named_refutes : (n : ℕ) (clauses : List (List Literal)) (steps : List Step) (reduced : List (List Literal)) (numbers : List ℕ) (found : List Step) → derives n clauses steps ≡ true → AreNamed (all_known (clauses_before clauses steps)) numbers reduced → refutes n reduced found ≡ true → length clauses + (length steps + length found) < 2 ^ 64 → refutes n clauses (steps ++ map (kept_step (whole_number numbers (length clauses + length steps))) found) ≡ true
+named_refutes n clauses steps reduced numbers found d a r few =
     let rename = whole_number numbers (length clauses + length steps) in
     let known = all_known (clauses_before clauses steps) in
-    let derived = derived_all n clauses steps a.derived in
+    let derived = derived_all n clauses steps d in
     refutes_after n (all_known clauses) steps (map (kept_step rename) found) derived.0
-    (rw derived.1 (refutes_renamed n rename found (all_known reduced) known (agree known numbers reduced (length clauses + length steps) a.named) next r))
+    (rw derived.1 (refutes_renamed n rename found (all_known reduced) known (agree known numbers reduced (length clauses + length steps) a) next r))
   where
     next : (j : ℕ) → j < length found → whole_number numbers (length clauses + length steps) (length (all_known reduced) + suc j) ≡ length (all_known (clauses_before clauses steps)) + suc j
     next j h =
-        let m : length (all_known reduced) + suc j ≡ length numbers + suc j = omega (arith, length-all reduced, a.named.as_many) in
+        let m : length (all_known reduced) + suc j ≡ length numbers + suc j = omega (arith, length-all reduced, a.as_many) in
         rw (m, lt_yes (length numbers) (length numbers + suc j) (omega arith)) (omega (arith, length-all (clauses_before clauses steps), length-before clauses steps, few, h))
+
+-- the steps that the search's steps stand for, after the steps of the elimination, refute the whole list
+pub reduction_refutes : (n : ℕ) (clauses : List (List Literal)) (steps : List Step) (m : ℕ) (reduced : List (List Literal)) (names numbers : List ℕ) (found : List Step) → IsReduction n clauses steps m reduced names numbers → refutes m reduced found ≡ true → length clauses + (length steps + length found) < 2 ^ 64 → refutes n clauses (steps ++ map (whole_step names numbers (length clauses + length steps)) found) ≡ true
+reduction_refutes n clauses steps m reduced names numbers found a r few =
+    let f = new_name names in
+    let renaming = is_renaming names n a.are_names a.few in
+    let renamed_r = refutes_renaming f (length names) n renaming reduced found (rw a.as_many r) in
+    let count = length-map found (renamed_step f) in
+    let all = named_refutes n clauses steps (map (map (renamed f)) reduced) numbers (map (renamed_step f) found) a.derived a.named renamed_r (rw count few) in
+    rw (map-map (kept_step (whole_number numbers (length clauses + length steps))) (renamed_step f) found) at all

@@ -1,9 +1,10 @@
--- When an elimination is right, and the numbers that clauses have in a refutation of the whole list.
-use Rattle.std.specs.Prelude.{◌≡◌, ℕ, ◌+◌, ◌-◌, ◌<◌, ◌^◌, min, nat_lt, true, if◌then◌else◌, List, [], Option, length, slice_index_or, MatchOption}
+-- When an elimination is right, and what the clauses and steps of the reduced list become in a refutation of the whole list.
+use Rattle.std.specs.Prelude.{◌≡◌, ℕ, ◌+◌, ◌-◌, ◌<◌, ◌^◌, min, nat_lt, true, if◌then◌else◌, List, [], Option, length, map, slice_index_or, MatchOption}
 use Rattle.dd_clause.specs.declared.clause.Literal.{Literal}
 use Rattle.dd_derivation.specs.declared.step.Step.{Step}
 use Rattle.dd_derivation.specs.Derivations.{is_among, clause_of, clauses_before, derives}
-use Rattle.dd_solver.specs.searching.Search.{all_known}
+use Rattle.dd_solver.specs.searching.{Search.all_known, Marking.kept_step}
+use Rattle.dd_elimination.specs.Renaming.{AreNames, new_name, renamed, renamed_step}
 
 -- The number that a clause gets in the refutation of the whole list. `number` is its number in the refutation of the reduced list. `numbers` has the
 -- new number of each clause of the reduced list. The clauses of the steps get the numbers after `before`, up to the greatest number of 64 bits.
@@ -25,8 +26,16 @@ pub record AreNamed (known : List (Option (List Literal))) (numbers : List ℕ) 
   pub as_many : length numbers ≡ length clauses
   pub named : (k : ℕ) → k < length clauses → IsNamed known (slice_index_or numbers k 0) (slice_index_or clauses k [])
 
--- The elimination is right. Each of its steps is right, and deletes nothing. Each clause of the reduced list has the same literals as the clause of
--- the whole list, or of a step, that has its number.
-pub record IsReduction (n : ℕ) (clauses : List (List Literal)) (steps : List Step) (reduced : List (List Literal)) (numbers : List ℕ) : Type 0 where
+-- The elimination is right. Each of its steps is right, and deletes nothing. Each of the m variables of the reduced list has a name: the number of
+-- the variable of the whole list that it stands for. Each clause of the reduced list stands for a clause that has the same literals as the clause of
+-- the whole list, or of a step, that has its number. The whole list has n variables, fewer than 2^32.
+pub record IsReduction (n : ℕ) (clauses : List (List Literal)) (steps : List Step) (m : ℕ) (reduced : List (List Literal)) (names numbers : List ℕ) : Type 0 where
+  pub few : n < 2 ^ 32
   pub derived : derives n clauses steps ≡ true
-  pub named : AreNamed (all_known (clauses_before clauses steps)) numbers reduced
+  pub as_many : length names ≡ m
+  pub are_names : AreNames names n
+  pub named : AreNamed (all_known (clauses_before clauses steps)) numbers (map (map (renamed (new_name names))) reduced)
+
+-- The step of the whole list that a step of the reduced list stands for. It has the original literals, and new numbers in its hints.
+abbrev pub whole_step : List ℕ → List ℕ → ℕ → Step → Step
+whole_step names numbers before s = kept_step (whole_number numbers before) (renamed_step (new_name names) s)

@@ -68,7 +68,7 @@ struct Sides {
 /// A clause list from which variables are eliminated.
 #[derive(Drop)]
 pub(crate) struct Elimination {
-    variables: u32,
+    pub variables: u32,
     /// How many clauses the list had.
     count: u64,
     /// The literals of all entries, one entry after the other.
@@ -366,9 +366,13 @@ impl Elimination {
     /// Tries to eliminate each of the candidates, until `work` is 0. Returns whether a variable was eliminated.
     fn try_changed(&mut self, alloc: Global) -> Result<bool, AllocError> {
         let candidates = self.candidates(alloc)?;
+        let mut sides = Sides {
+            positive: Vec::new(alloc),
+            negative: Vec::new(alloc),
+        };
         let mut any_eliminated = false;
         for candidate in candidates.as_slice() {
-            if self.work > 0 && self.eliminate(alloc, candidate.variable)? {
+            if self.work > 0 && self.eliminate(alloc, candidate.variable, &mut sides)? {
                 self.compare_all(alloc)?;
                 any_eliminated = true;
             }
@@ -414,16 +418,14 @@ impl Elimination {
         count
     }
 
-    /// The clauses that contain the variable, and those that contain its negation.
-    fn sides(&mut self, alloc: Global, variable: u32) -> Result<Sides, AllocError> {
-        let count = self.tidy(variable as usize);
+    /// Fills `sides` with the clauses that contain the variable and those that contain its negation.
+    fn fill_sides(&mut self, variable: u32, sides: &mut Sides) -> Result<(), AllocError> {
+        self.tidy(variable as usize);
+        sides.positive.clear();
+        sides.negative.clear();
         let literal = Literal {
             variable,
             positive: true,
-        };
-        let mut sides = Sides {
-            positive: Vec::with_capacity(alloc, count)?,
-            negative: Vec::with_capacity(alloc, count)?,
         };
         if let Some(indices) = self.occurrences.get(variable as usize) {
             for index in indices.as_slice() {
@@ -436,30 +438,34 @@ impl Elimination {
                 }
             }
         }
-        Ok(sides)
+        Ok(())
     }
 
-    /// Eliminates a variable, if its resolvents are few and short. Returns whether it did.
-    fn eliminate(&mut self, alloc: Global, variable: u32) -> Result<bool, AllocError> {
+    /// Eliminates a variable, if its resolvents are few and short. Returns whether it did. Works in the memory of `sides`.
+    fn eliminate(
+        &mut self,
+        alloc: Global,
+        variable: u32,
+        sides: &mut Sides,
+    ) -> Result<bool, AllocError> {
         let place = variable as usize;
         if place < self.changed.len() {
             self.changed[place] = false;
         }
-        let sides = self.sides(alloc, variable)?;
-        if !self.is_worth_it(variable, &sides) {
+        self.fill_sides(variable, sides)?;
+        if !self.is_worth_it(variable, sides) {
             return Ok(false);
         }
-        self.derive_resolvents(alloc, variable, &sides)?;
-        let Sides { positive, negative } = sides;
-        for index in positive.as_slice() {
+        self.derive_resolvents(alloc, variable, sides)?;
+        for index in sides.positive.as_slice() {
             self.remove(*index);
         }
-        for index in negative.as_slice() {
+        for index in sides.negative.as_slice() {
             self.remove(*index);
         }
         self.eliminated.push(Eliminated {
             variable,
-            clauses: positive,
+            clauses: Vec::from_slice(alloc, sides.positive.as_slice())?,
         })?;
         Ok(true)
     }

@@ -1,13 +1,15 @@
-//! The check of an elimination by resolution. Its steps have to be right, and may delete nothing. Each clause of the reduced
-//! list has to have the same literals as the clause with its number, which is a clause of the whole list or of a step. Then,
-//! if any steps refute the reduced list, the steps of the elimination, followed by these steps with new numbers in their
-//! hints, refute the whole list. So only the elimination is checked, and not the steps of the search, which may be many.
-ghost use Rattle.std.specs.Prelude.{◌≡◌, true, IfOk};
+//! The check of an elimination by resolution. Its steps have to be right, and may delete nothing. The variables of the reduced
+//! list have to stand for different variables of the whole list. Each clause of the reduced list has to stand for a clause that
+//! has the same literals as the clause with its number, which is a clause of the whole list or of a step. Then, if any steps
+//! refute the reduced list, the steps of the elimination, followed by the steps that these stand for, refute the whole list. So
+//! only the elimination is checked, and not the steps of the search, which may be many.
+ghost use Rattle.std.specs.Prelude.{◌≡◌, true, map, IfOk};
 ghost use Rattle.dd_clause.specs.declared.clause.Literal.{Literal};
 ghost use Rattle.dd_derivation.specs.Derivations as spec;
 ghost use Rattle.dd_elimination.specs.Reductions.{HaveSameLiterals, AreNamed, IsReduction};
+ghost use Rattle.dd_elimination.specs.Renaming.{AreNames, new_name, renamed};
 
-use crate::whole::Reduced;
+use crate::whole::{Reduced, originals};
 use dd_clause::{Clause, Cnf, Literal};
 use dd_derivation::{Known, Marks, Step, check_derivation};
 use std::alloc::{AllocError, Global};
@@ -32,26 +34,49 @@ fn have_same_literals(first: &[Literal], second: &[Literal]) -> bool
     first == second || (are_among(first, second) && are_among(second, first))
 }
 
-/// Whether each clause has the same literals as the known clause with its number.
-fn are_named(known: &Known, numbers: &[u64], clauses: &[Clause]) -> bool
-    ensures { result ≡ true → AreNamed known.now numbers.now clauses.now }
+/// Whether each clause of the reduced list stands for a clause that has the same literals as the known clause with its number.
+fn are_named(
+    alloc: Global,
+    known: &Known,
+    names: &[u32],
+    numbers: &[u64],
+    clauses: &[Clause],
+) -> Result<bool, AllocError>
+    ensures { IfOk result (λ right. right ≡ true → AreNamed known.now numbers.now (map (map (renamed (new_name names.now))) clauses.now)) }
 {
     if numbers.len() != clauses.len() {
-        return false;
+        return Ok(false);
     }
     for (place, clause) in clauses.iter().enumerate() {
         let Some(named) = known.find_clause(numbers[place]) else {
-            return false;
+            return Ok(false);
         };
-        if !have_same_literals(named, clause.literals()) {
-            return false;
+        let Some(literals) = originals(alloc, names, clause.literals())? else {
+            return Ok(false);
+        };
+        if !have_same_literals(named, literals.as_slice()) {
+            return Ok(false);
         }
     }
-    true
+    Ok(true)
 }
 
-/// Whether the steps of the elimination are right and delete nothing, and each clause of the reduced list has the same literals
-/// as the clause with its number. This should always be so.
+/// Whether the names ascend, and are numbers from 1 to `most`.
+fn are_names(names: &[u32], most: u32) -> bool
+    ensures { result ≡ true → AreNames names.now most }
+{
+    let mut last = 0u32;
+    for name in names {
+        if *name <= last {
+            return false;
+        }
+        last = *name;
+    }
+    last <= most
+}
+
+/// Whether the steps of the elimination are right and delete nothing, the variables of the reduced list have names (see
+/// `are_names`), and its clauses have numbers (see `are_named`). This should always be so.
 pub(crate) fn is_reduction(
     alloc: Global,
     whole: &Cnf,
@@ -59,13 +84,18 @@ pub(crate) fn is_reduction(
     reduced: &Reduced,
 ) -> Result<bool, AllocError>
     ensures { IfOk result (λ right. right ≡ true →
-        IsReduction whole.now.variables whole.now.clauses steps.now reduced.now.cnf.clauses reduced.now.numbers.items) }
+        IsReduction whole.now.variables whole.now.clauses steps.now reduced.now.cnf.variables reduced.now.cnf.clauses reduced.now.names.items reduced.now.numbers.items) }
 {
+    let names = reduced.names.as_slice();
+    if names.len() != reduced.cnf.variables() as usize || !are_names(names, whole.variables()) {
+        return Ok(false);
+    }
     let mut marks = Marks::new(alloc, whole, steps)?;
     if !check_derivation(whole, steps, &mut marks) {
         return Ok(false);
     }
     let alive = vec![in alloc; true; whole.clauses().len() + steps.len()]?;
     let known = Known::new(whole.clauses(), steps, alive.as_slice());
-    Ok(are_named(&known, reduced.numbers.as_slice(), reduced.cnf.clauses()))
+    let numbers = reduced.numbers.as_slice();
+    are_named(alloc, &known, names, numbers, reduced.cnf.clauses())
 }

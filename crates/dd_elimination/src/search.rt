@@ -103,7 +103,10 @@ fn find_reduced(alloc: Global, cnf: &Cnf) -> Result<Option<Outcome>, AllocError>
         return Ok(None);
     };
     match solve_with(alloc, &reduced.cnf, Style::Focused)? {
-        Outcome::Found(assignment) => Ok(confirmed(cnf, elimination.extended(alloc, &assignment)?)),
+        Outcome::Found(assignment) => {
+            let whole = elimination.extended(alloc, &reduced, &assignment)?;
+            Ok(confirmed(cnf, whole))
+        }
         Outcome::Refuted(steps) => {
             let used = trimmed(alloc, &reduced.cnf, steps)?;
             whole_refutation(alloc, cnf, elimination, &reduced, used)
@@ -120,15 +123,16 @@ fn whole_refutation(
     reduced: &Reduced,
     steps: Items<Step>,
 ) -> Result<Option<Outcome>, AllocError>
-    requires variables { reduced.now.cnf.variables ≡ cnf.now.variables }
-    requires refutes { refutes reduced.now.cnf.variables reduced.now.cnf.clauses steps ≡ true }
+    requires { refutes reduced.now.cnf.variables reduced.now.cnf.clauses steps ≡ true }
     ensures { IfOk result (λ found. IfSome found (IsAnswer cnf.now.variables cnf.now.clauses)) }
 {
     if !is_reduction(alloc, cnf, elimination.steps.as_slice(), reduced)? {
         return Ok(None);
     }
-    let whole = elimination.into_refutation(alloc, cnf, reduced.numbers.as_slice(), steps)?;
-    Ok(Some(Outcome::Refuted(whole)))
+    match elimination.into_refutation(alloc, cnf, reduced, steps)? {
+        Some(whole) => Ok(Some(Outcome::Refuted(whole))),
+        None => Ok(None),
+    }
 }
 
 /// The answer that an assignment gives. `None` if it doesn't satisfy the clauses.

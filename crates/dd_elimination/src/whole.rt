@@ -2,7 +2,8 @@
 //! list.
 ghost use Rattle.std.specs.Prelude.{◌≡◌, ◌+◌, ◌<◌, ◌^◌, ◌++◌, length, map, IfOk, IfSome};
 ghost use Rattle.dd_solver.specs.searching.Marking.{kept_step};
-ghost use Rattle.dd_elimination.specs.Reductions.{whole_number};
+ghost use Rattle.dd_elimination.specs.Reductions.{whole_number, whole_step};
+ghost use Rattle.dd_elimination.specs.Renaming.{new_name, renamed};
 
 use crate::elimination::{Eliminated, Elimination};
 use dd_clause::{Assignment, Clause, Cnf, Literal};
@@ -10,12 +11,25 @@ use dd_derivation::Step;
 use dd_values::Items;
 use std::alloc::{AllocError, Global};
 
-/// The remaining clauses, and for each its number in a refutation of the whole list. There, the clauses of the whole list are
-/// numbered first, and then the steps of the elimination.
+/// The remaining clauses. Their variables are numbered anew from 1, without gaps, so that what the search keeps for them lies
+/// close together in memory.
 #[derive(Drop)]
 pub(crate) struct Reduced {
     pub cnf: Cnf,
+    /// For each variable of the remaining clauses, its number in the whole list. These numbers ascend.
+    pub names: Vec<u32>,
+    /// For each of the clauses, its number in a refutation of the whole list. There, the clauses of the whole list are numbered
+    /// first, and then the steps of the elimination.
     pub numbers: Vec<u64>,
+}
+
+/// The variables of the remaining clauses.
+#[derive(Drop)]
+struct Variables {
+    /// Their numbers in the whole list, in ascending order.
+    names: Vec<u32>,
+    /// For each variable of the whole list, at the index that is its number, its new number, or 0 if no remaining clause has it.
+    places: Vec<u32>,
 }
 
 /// Whether a literal is true under the values.
@@ -73,16 +87,103 @@ pub(crate) fn renumbered_step(alloc: Global, numbers: &[u64], before: u64, step:
     }
 }
 
+/// The literal of the whole list that stands for a literal of the reduced list. `names` has the variables (see `Reduced`).
+/// `None` if the variable isn't among them, which never happens.
+fn original(names: &[u32], literal: Literal) -> Option<Literal>
+    ensures { IfSome result (λ l. l ≡ renamed (new_name names.now) literal) }
+{
+    let variable = literal.variable as usize;
+    if variable < 1 || variable > names.len() {
+        return None;
+    }
+    Some(Literal {
+        variable: names[variable - 1],
+        positive: literal.positive,
+    })
+}
+
+/// The literals of the whole list that stand for literals of the reduced list (see `original`).
+pub(crate) fn originals(
+    alloc: Global,
+    names: &[u32],
+    literals: &[Literal],
+) -> Result<Option<Vec<Literal>>, AllocError>
+    ensures { IfOk result (λ found. IfSome found (λ originals. originals.items ≡ map (renamed (new_name names.now)) literals.now)) }
+{
+    let mut originals: Vec<Literal> = Vec::with_capacity(alloc, literals.len())?;
+    for literal in literals {
+        let Some(literal) = original(names, *literal) else {
+            return Ok(None);
+        };
+        originals.push(literal)?;
+    }
+    Ok(Some(originals))
+}
+
+/// The step of the whole list that stands for a step of the reduced list: it has the original literals (see `originals`), and
+/// new numbers in its hints (see `new_number`).
+fn whole_step(
+    alloc: Global,
+    names: &[u32],
+    numbers: &[u64],
+    before: u64,
+    step: Step,
+) -> Result<Option<Step>, AllocError>
+    ensures { IfOk result (λ found. IfSome found (λ s. s ≡ whole_step names.now numbers.now before step)) }
+{
+    let Some(literals) = originals(alloc, names, step.clause.literals())? else {
+        return Ok(None);
+    };
+    let clause = Clause::from_literals(alloc, literals.as_slice())?;
+    let step = renumbered_step(alloc, numbers, before, step);
+    Ok(Some(Step { clause, ..step }))
+}
+
 impl Elimination {
-    /// The remaining clauses. `None` if one has a variable that isn't in the list, which never happens.
-    pub(crate) fn reduced(&self, alloc: Global, whole: &Cnf) -> Result<Option<Reduced>, AllocError>
-        ensures { IfOk result (λ found. IfSome found (λ reduced. reduced.cnf.variables ≡ whole.now.variables)) }
-    {
-        let mut cnf = Cnf::new(alloc, whole.variables());
-        let mut numbers: Vec<u64> = Vec::new(alloc);
+    /// The variables of the remaining clauses.
+    fn remaining_variables(&self, alloc: Global) -> Result<Variables, AllocError> {
+        let mut places = vec![in alloc; 0u32; self.variables as usize + 1]?;
         for entry in self.entries.as_slice() {
             if entry.is_alive {
-                let clause = Clause::from_literals(alloc, self.literals_of(entry))?;
+                for literal in self.literals_of(entry) {
+                    if let Some(place) = places.get_mut(literal.variable as usize) {
+                        *place = 1;
+                    }
+                }
+            }
+        }
+        let mut names: Vec<u32> = Vec::new(alloc);
+        for variable in 1..=self.variables {
+            if let Some(place) = places.get_mut(variable as usize) {
+                if *place != 0 {
+                    names.push(variable)?;
+                    *place = u32::try_from(names.len()).unwrap_or(0);
+                }
+            }
+        }
+        Ok(Variables { names, places })
+    }
+
+    /// The remaining clauses. `None` if one has a variable that isn't in the list, which never happens.
+    pub(crate) fn reduced(
+        &self,
+        alloc: Global,
+        whole: &Cnf,
+    ) -> Result<Option<Reduced>, AllocError> {
+        let Variables { names, places } = self.remaining_variables(alloc)?;
+        let count = u32::try_from(names.len()).unwrap_or(0);
+        let mut cnf = Cnf::new(alloc, count.min(whole.variables()));
+        let mut numbers: Vec<u64> = Vec::new(alloc);
+        let mut literals: Vec<Literal> = Vec::new(alloc);
+        for entry in self.entries.as_slice() {
+            if entry.is_alive {
+                literals.clear();
+                for literal in self.literals_of(entry) {
+                    let variable = places.get(literal.variable as usize).copied().unwrap_or(0);
+                    let positive = literal.positive;
+                    literals.push(Literal { variable, positive })?;
+                }
+                let clause = Clause::from_literals(alloc, literals.as_slice())?;
                 if !cnf.is_in_range(&clause) {
                     return Ok(None);
                 }
@@ -90,17 +191,30 @@ impl Elimination {
                 numbers.push(entry.number)?;
             }
         }
-        Ok(Some(Reduced { cnf, numbers }))
+        Ok(Some(Reduced {
+            cnf,
+            names,
+            numbers,
+        }))
     }
 
     /// An assignment that satisfies the whole list, if the given one satisfies the reduced list. The variable that was
-    /// eliminated last gets its value first.
+    /// eliminated last gets its value first. A variable that was not eliminated and is in no remaining clause is false.
     pub(crate) fn extended(
         &self,
         alloc: Global,
+        reduced: &Reduced,
         assignment: &Assignment,
     ) -> Result<Assignment, AllocError> {
-        let mut values = Vec::from_slice(alloc, assignment.values())?;
+        let mut values = vec![in alloc; false; self.variables as usize]?;
+        for (place, value) in assignment.values().iter().enumerate() {
+            if let Some(name) = reduced.names.get(place).copied() {
+                let variable = name as usize;
+                if variable >= 1 && variable <= values.len() {
+                    values[variable - 1] = *value;
+                }
+            }
+        }
         for eliminated in self.eliminated.iter().rev() {
             let value = self.has_to_be_true(eliminated, values.as_slice());
             let variable = eliminated.variable as usize;
@@ -123,25 +237,30 @@ impl Elimination {
         false
     }
 
-    /// The steps of the elimination, and after them those of the search, which get new numbers in their hints. If the
-    /// elimination is right and the steps of the search refute the reduced list, all these steps refute the whole list.
-    /// `numbers` has the number of each clause of the reduced list (see `Reduced`).
+    /// The steps of the elimination, and after them those of the search (see `whole_step`). If the elimination is right and the
+    /// steps of the search refute the reduced list, all these steps refute the whole list. `None` if a step has a variable that
+    /// isn't in the reduced list, which never happens.
     pub(crate) fn into_refutation(
         self,
         alloc: Global,
         whole: &Cnf,
-        numbers: &[u64],
+        reduced: &Reduced,
         steps: Items<Step>,
-    ) -> Result<Items<Step>, AllocError>
+    ) -> Result<Option<Items<Step>>, AllocError>
         ensures all { let before = length whole.now.clauses + length self.steps.items in
-            IfOk result (λ all. all ≡ self.steps.items ++ map (kept_step (whole_number numbers.now before)) steps) }
-        ensures few { IfOk result (λ all. length whole.now.clauses + length all < 2 ^ 64) }
+            IfOk result (λ found. IfSome found (λ all. all ≡ self.steps.items ++ map (whole_step reduced.now.names.items reduced.now.numbers.items before) steps)) }
+        ensures few { IfOk result (λ found. IfSome found (λ all. length whole.now.clauses + length all < 2 ^ 64)) }
     {
         let before = whole.clauses().len() as u64 + self.steps.len() as u64;
+        let names = reduced.names.as_slice();
+        let numbers = reduced.numbers.as_slice();
         let mut all = self.steps;
         for step in steps.into_vec() {
-            all.push(renumbered_step(alloc, numbers, before, step))?;
+            let Some(step) = whole_step(alloc, names, numbers, before, step)? else {
+                return Ok(None);
+            };
+            all.push(step)?;
         }
-        Ok(Items::from_vec(all))
+        Ok(Some(Items::from_vec(all)))
     }
 }
