@@ -21,8 +21,8 @@ const MOST_PAIRS: usize = 1000;
 /// A variable is kept if one of the resolvents that would replace its clauses has more literals than this.
 const MOST_LITERALS: usize = 20;
 
-/// The greatest number of rounds. The first round tries all variables, and each later one those that have lost a clause since
-/// they were last tried. A variable that `candidates` leaves out of a round may be tried in a later one.
+/// The greatest number of rounds. The first round goes through all variables, and each later one through those that have not
+/// been tried yet or have lost a clause since they were last tried. `candidates` says which of these a round leaves out.
 const ROUNDS: usize = 10;
 
 /// Roughly the greatest number of pairs of literals that are compared. Comparing that many takes about half a second.
@@ -104,7 +104,8 @@ fn is_alive(entries: &[Entry], index: usize) -> bool {
     }
 }
 
-/// An empty list of indices for each of `count` variables. Each list has room for the clauses that have the variable.
+/// `count` empty lists of indices. The list at the index that is a variable's number has room for the clauses that have the
+/// variable or its negation.
 fn empty_occurrences(
     alloc: Global,
     cnf: &Cnf,

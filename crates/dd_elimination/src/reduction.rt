@@ -1,8 +1,9 @@
 //! The check of an elimination by resolution. Its steps have to be right, and may delete nothing. The variables of the reduced
-//! list have to stand for different variables of the whole list. Each clause of the reduced list has to stand for a clause that
-//! has the same literals as the clause with its number, which is a clause of the whole list or of a step. Then, if any steps
-//! refute the reduced list, the steps of the elimination, followed by the steps that these stand for, refute the whole list. So
-//! only the elimination is checked, and not the steps of the search, which may be many.
+//! list have to stand for different variables of the whole list. Each clause of the reduced list comes with the number of a
+//! clause of the whole list or of a step (see `Reduced` in the file `whole.rt`), and has to stand for a clause that has the
+//! same literals as that one. Then each refutation of the reduced list gives one of the whole list: the steps of the
+//! elimination, followed by the steps of the whole list that the refutation's steps stand for. So only the elimination is
+//! checked, and not the steps of the search, which may be many.
 ghost use Rattle.std.specs.Prelude.{◌≡◌, true, map, IfOk};
 ghost use Rattle.dd_clause.specs.declared.clause.Literal.{Literal};
 ghost use Rattle.dd_derivation.specs.Derivations as spec;
@@ -26,8 +27,8 @@ fn are_among(others: &[Literal], literals: &[Literal]) -> bool
     true
 }
 
-/// Whether two clauses have the same literals. A clause of the whole list may have a literal several times. The clause that the
-/// elimination makes of it has the literal once.
+/// Whether two clauses have the same literals. A clause of the whole list may have a literal several times. The clause that
+/// the elimination makes of it has the literal once.
 fn have_same_literals(first: &[Literal], second: &[Literal]) -> bool
     ensures { result ≡ true → HaveSameLiterals first.now second.now }
 {
@@ -61,7 +62,7 @@ fn are_named(
     Ok(true)
 }
 
-/// Whether the names ascend, and are numbers from 1 to `most`.
+/// Whether the names (see `Reduced`) ascend, and are numbers from 1 to `most`.
 fn are_names(names: &[u32], most: u32) -> bool
     ensures { result ≡ true → AreNames names.now most }
 {

@@ -1,6 +1,7 @@
 //! Resolution: two clauses, one with a variable and one with its negation, give a third clause, their resolvent on this
 //! variable. The resolvent has all other literals of the two clauses, and follows from these clauses. In each list of literals
-//! that is given to a function here, the literals have different variables. Only `push_distinct` takes any list.
+//! that is given to `literal_of`, `resolvent_length` or `relate`, the literals have different variables. `part` and
+//! `push_distinct` take any list.
 use dd_clause::Literal;
 use std::alloc::AllocError;
 

@@ -18,8 +18,8 @@ pub(crate) struct Reduced {
     pub cnf: Cnf,
     /// For each variable of the remaining clauses, its number in the whole list. These numbers ascend.
     pub names: Vec<u32>,
-    /// For each of the clauses, its number in a refutation of the whole list. There, the clauses of the whole list are numbered
-    /// first, and then the steps of the elimination.
+    /// For each of the clauses, its number in a refutation of the whole list. There, the clauses of the whole list are
+    /// numbered first, and then the steps of the elimination.
     pub numbers: Vec<u64>,
 }
 
@@ -28,7 +28,8 @@ pub(crate) struct Reduced {
 struct Variables {
     /// Their numbers in the whole list, in ascending order.
     names: Vec<u32>,
-    /// For each variable of the whole list, at the index that is its number, its new number, or 0 if no remaining clause has it.
+    /// For each variable of the whole list, at the index that is its number, its new number, or 0 if no remaining clause has
+    /// it.
     places: Vec<u32>,
 }
 
@@ -87,7 +88,7 @@ pub(crate) fn renumbered_step(alloc: Global, numbers: &[u64], before: u64, step:
     }
 }
 
-/// The literal of the whole list that stands for a literal of the reduced list. `names` has the variables (see `Reduced`).
+/// The literal of the whole list that a literal of the reduced list stands for. `names` has the variables (see `Reduced`).
 /// `None` if the variable isn't among them, which never happens.
 fn original(names: &[u32], literal: Literal) -> Option<Literal>
     ensures { IfSome result (λ l. l ≡ renamed (new_name names.now) literal) }
@@ -102,7 +103,7 @@ fn original(names: &[u32], literal: Literal) -> Option<Literal>
     })
 }
 
-/// The literals of the whole list that stand for literals of the reduced list (see `original`).
+/// The literals of the whole list that literals of the reduced list stand for (see `original`).
 pub(crate) fn originals(
     alloc: Global,
     names: &[u32],
@@ -120,7 +121,7 @@ pub(crate) fn originals(
     Ok(Some(originals))
 }
 
-/// The step of the whole list that stands for a step of the reduced list: it has the original literals (see `originals`), and
+/// The step of the whole list that a step of the reduced list stands for: it has the original literals (see `originals`), and
 /// new numbers in its hints (see `new_number`).
 fn whole_step(
     alloc: Global,
@@ -237,9 +238,9 @@ impl Elimination {
         false
     }
 
-    /// The steps of the elimination, and after them those of the search (see `whole_step`). If the elimination is right and the
-    /// steps of the search refute the reduced list, all these steps refute the whole list. `None` if a step has a variable that
-    /// isn't in the reduced list, which never happens.
+    /// The steps of the elimination, and after them those of the search (see `whole_step`). If the elimination is right and
+    /// the steps of the search refute the reduced list, all these steps refute the whole list. `None` if a step has a variable
+    /// that isn't in the reduced list, which never happens.
     pub(crate) fn into_refutation(
         self,
         alloc: Global,

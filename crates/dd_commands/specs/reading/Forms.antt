@@ -1,5 +1,5 @@
--- Forms, and combinations of them. A form says how items of a kind are written, and how they are read. If there is a form `x`, the reader `x_at`
--- belongs to it: `each_at` reads what `each` describes.
+-- Forms, and combinations of them. A form says how items of a kind are written, and how they are read. A reader `x_at` belongs to the form `x`, if
+-- there is one: `each_at` reads what `each` describes.
 use Rattle.std.specs.Prelude.{◌≡◌, ℕ, ◌≤◌, List, [], ◌∷◌, ◌++◌, length, ◌==◌, nat_le, Bool, Option, Some, None, is_some, if◌then◌else◌}
 use Rattle.dd_commands.specs.Tree.{Lexeme}
 pub use Rattle.dd_written.specs.reading.Readers.{◌>>=◌, Reader, many, ReadsAll}
