@@ -102,7 +102,7 @@ fn find_reduced(alloc: Global, cnf: &Cnf) -> Result<Option<Outcome>, AllocError>
     let Some(reduced) = elimination.reduced(alloc, cnf)? else {
         return Ok(None);
     };
-    match solve_with(alloc, &reduced.cnf, Style::Focused)? {
+    match solve_with(alloc, &reduced.cnf, Style::Selective)? {
         Outcome::Found(assignment) => {
             let whole = elimination.extended(alloc, &reduced, &assignment)?;
             Ok(confirmed(cnf, whole))

@@ -1,6 +1,6 @@
--- Strips, which strips and weights a question about a rule may name, and which strips are small enough for a rule. Each position of Z^d has one or
--- more nodes. A cell is a position together with one of its nodes. A strip has periods along y and z, and no end along x. A slice consists of the
--- strip's cells with one value of x.
+-- What a strip is, which strips and weights a question about a rule may name, and which strips are small enough for a rule. Each position of Z^d has
+-- one or more nodes. A cell is a position together with one of its nodes. A strip has periods along y and z, and no end along x. A slice consists of
+-- the strip's cells with one value of x.
 use Rattle.std.specs.Prelude.{◌≡◌, ◌⊎◌, ℕ, ◌*◌, ◌<◌, ◌≤◌, List, length, slice_index}
 use Rattle.std.specs.List.{All}
 use Rattle.dd_values.specs.Bounds.{most_weight}

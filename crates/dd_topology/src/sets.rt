@@ -11,7 +11,7 @@ pub struct Sets {
     nodes: u32,
     /// How many symbols the whole alphabet has.
     symbols: u32,
-    /// Whether each node allows each symbol: a row of `symbols` answers for each node, one row after another.
+    /// For each node, a row of `symbols` entries, one row after another. Each entry says whether the node allows the symbol.
     allowed: Vec<bool>,
 }
 

@@ -173,7 +173,7 @@ refutes_false set n known (step ∷ steps) s h =
       | inr r ↦ refutes_false set n (known_after known step.deletes ++ Some step.clause ∷ []) steps (All-push (TrueIfKnown set) _ (Some step.clause) (after_true set known step.deletes s) (λ c e. let q : step.clause ≡ c = some_eq _ _ e in subst (λ (x : List Literal). is_clause_true set x ≡ true) q t)) r
     ]
 
--- all clauses are known and true
+-- if the set satisfies the clauses, they are all true when taken as known
 all_true : (set : ℕ → Bool) (clauses : List (List Literal)) → Satisfies set clauses → KnownTrue set (map (λ c. Some c) clauses)
 all_true set clauses s = All-map (TrueIfKnown set) (λ c. Some c) clauses (λ k d l c e. let q : get_or clauses k d ≡ c = some_eq _ _ e in subst (λ (x : List Literal). is_clause_true set x ≡ true) q (s k d l))
 

@@ -29,7 +29,7 @@ front_after a b c before text so_far more = record {
   whole = ap (λ (l : List ℕ). before ++ l) more.whole ∙ sym (append_assoc before more.gained more.missing);
 }
 
--- `bytes` were read, and then at most `room` more bytes; so at most `limit` in all, if the length of `bytes` and `room` add up to at most `limit`
+-- `bytes` were read, and then at most `room` more bytes; so at most `limit` in all, if the length of `bytes` plus `room` is at most `limit`
 pub gave_few_more : (a b c : Option (List ℕ)) (bytes : List ℕ) (room limit : ℕ) → Consumes a b bytes → GivesAtMost b c room → length bytes + room ≤ limit → GivesAtMost a c limit
 gave_few_more a b c bytes room limit so_far more fits = record {
   given = bytes ++ more.given;
