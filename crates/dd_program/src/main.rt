@@ -1,5 +1,5 @@
-//! The program: its arguments, standard input and output, engines and exit code. An engine is asked before a search, and may
-//! propose the search's result.
+//! The program: its arguments, standard input and output, engines and exit code. Lists of clauses are searched for assignments
+//! that satisfy them. Before such a search, an engine is asked, and may propose the search's result.
 #![tactic(auto)]
 
 use dd_engines::{Engine, Propagator, Roster, Walker};
