@@ -49,8 +49,8 @@ read_on_consumes a b c before after count so_far read =
 pub length_take_at_most : (n : ℕ) (l : List ℕ) → length (take n l) ≤ n
 length_take_at_most n l = omega (arith, length-take {A = ℕ})
 
--- The next `n` bytes were copied to the start of a slice whose other bytes are `rest`. So the bytes from `at` on are the first `n` of the slice,
--- followed by the bytes from `at + n` on.
+-- The `n` bytes of `bytes` from the index `at` on were copied to the start of a slice whose other bytes are `rest`. So the part of `bytes` from `at`
+-- on is the first `n` bytes of the slice, followed by the part of `bytes` from `at + n` on.
 pub gave : (bytes copied rest : List ℕ) (at n : ℕ) → copied ≡ take (at + n - at) (drop at bytes) → length copied ≡ n → drop at bytes ≡ take n (copied ++ rest) ++ drop (at + n) bytes
 gave bytes copied rest at n copy long =
     let same : at + n - at ≡ n = omega arith in
