@@ -37,7 +37,7 @@ gave_few_more a b c bytes room limit so_far more fits = record {
   few = omega (arith, length-append bytes more.given, more.few);
 }
 
--- one more read makes the list of all bytes read longer by the count of this read
+-- one more read adds its count to the length of the list of all bytes read
 pub read_on_length : (a b : Option (List ℕ)) (before after : List ℕ) (count : ℕ) → ReadsOn a b before after count → length after ≡ length before + count
 read_on_length a b before after count read = omega (arith, ap length read.appended, length-append before read.given, read.counted)
 
