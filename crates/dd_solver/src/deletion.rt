@@ -10,7 +10,7 @@ ghost use Rattle.dd_clause.specs.declared.clause.Literal.{Literal};
 ghost use Rattle.dd_solver.specs.searching.Deleting.{AreChosen, MayDelete};
 
 use dd_clause::Literal;
-use dd_trail::{Database, Entry, Order, Trail};
+use dd_trail::{Database, Entry, Order, Style, Trail};
 use std::alloc::{AllocError, Global};
 
 /// The first review comes with the clause that is learned after this many.
@@ -155,8 +155,8 @@ impl Deletion {
         self.levels.get(place).copied()
     }
 
-    /// Makes some of these variables more active: those whose values were forced, at or after the last decision, by a learned
-    /// clause that has fewer levels than the one noted last (Audemard and Simon 2009).
+    /// In the selective style (see `Style`), makes some of these variables more active: those whose values were forced, at or
+    /// after the last decision, by a learned clause that has fewer levels than the one noted last (Audemard and Simon 2009).
     pub(crate) fn bump_selected(
         &self,
         order: &mut Order,
@@ -164,6 +164,10 @@ impl Deletion {
         clauses: usize,
         variables: &[u32],
     ) {
+        match order.style() {
+            Style::Broad | Style::Focused => return,
+            Style::Selective => {}
+        }
         let newest = self.levels.last().copied().unwrap_or(0);
         for variable in variables {
             if trail.is_latest(*variable) {

@@ -158,7 +158,12 @@ impl<'a> Search<'a> {
             learned.literals.as_slice(),
             learned.hints.as_slice(),
         )?;
-        self.bump_selected(learned.variables.as_slice());
+        self.deletion.bump_selected(
+            &mut self.order,
+            &self.trail,
+            self.clauses.len(),
+            learned.variables.as_slice(),
+        );
         let clause = Clause::from_literals(alloc, learned.literals.as_slice())?;
         let hints = Items::from_slice(alloc, learned.hints.as_slice())?;
         let deletes = Items::from_vec(numbers);
@@ -171,21 +176,6 @@ impl<'a> Search<'a> {
         push_step(&mut self.steps, &mut self.alive, step)?;
         self.watch_last(alloc)?;
         Ok(learned.backjump)
-    }
-
-    /// In the selective style (see `Style`), makes some of the variables of a conflict more active a second time.
-    fn bump_selected(&mut self, variables: &[u32])
-        ensures { self.new ≡ self.old }
-    {
-        match self.order.style() {
-            Style::Broad | Style::Focused => {}
-            Style::Selective => self.deletion.bump_selected(
-                &mut self.order,
-                &self.trail,
-                self.clauses.len(),
-                variables,
-            ),
-        }
     }
 
     /// Makes the clause of the last step watch two of its literals, if it has at least two.
