@@ -58,8 +58,8 @@ impl Sets {
         })
     }
 
-    /// Makes the node allow exactly these symbols. The node and the symbols must exist, and there must be at least one
-    /// symbol.
+    /// Makes the node allow exactly these symbols. The node and the symbols must exist, and the list of symbols must not be
+    /// empty.
     pub fn restrict(&mut self, node: u32, symbols: &[u32])
         requires node { node < length self.old.allowed }
         requires symbols { All (λ s. s < self.old.symbols) symbols.now }
