@@ -49,9 +49,9 @@ pub enum Style {
     Focused,
     /// As in the focused style, a variable becomes more active only once in a conflict, with this exception: it becomes more
     /// active a second time if its value was forced, at or after the last decision, by a learned clause that has fewer levels
-    /// than the new one (Audemard and Simon 2009). The levels of a clause are the different decision levels of its literals.
-    /// Each conflict adds still more than in the focused style. This style is better after many variables were eliminated by
-    /// resolution.
+    /// than the new one (Audemard and Simon 2009). The levels of a clause are the different decision levels above 0 of its
+    /// literals. Each conflict adds still more than in the focused style. This style is better after many variables were
+    /// eliminated by resolution.
     Selective,
 }
 
