@@ -107,8 +107,8 @@ impl<'a> Search<'a> {
     }
 
     /// Makes forced literals true, until it finds a falsified clause, or finds no clause that forces a literal. Returns the
-    /// number of the falsified clause, or `None`. While some variable has no value, the contract allows the call to miss such
-    /// clauses. Once each variable has a value, `None` means that no clause is falsified.
+    /// number of the falsified clause, or `None`. While some variable has no value, the contract allows `None` even if some
+    /// clause is falsified or forces a literal. Once each variable has a value, `None` means that no clause is falsified.
     fn propagate(&mut self) -> Result<Option<u64>, AllocError>
         ensures same { (self.new.variables ≡ self.old.variables) × (self.new.clauses ≡ self.old.clauses) × (self.new.steps ≡ self.old.steps) }
         ensures conflict { IfOk result (λ conflict. MatchOption conflict (IsFull self.new.variables self.new.entries → AreOpen self.new) (IsFalsified self.new)) }
