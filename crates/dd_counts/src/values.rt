@@ -83,8 +83,8 @@ fn value_clauses_from(
     Ok(sum)
 }
 
-/// The number of clauses that say that two automata differ at a node, or `limit + 1` if it is greater than `limit`. The clauses
-/// encode both values, for each symbol a gate with two inputs, and one gate over all these gates.
+/// The number of clauses that say whether two automata differ at a node, or `limit + 1` if it is greater than `limit`. The
+/// clauses encode both values, for each symbol a gate with two inputs, and one gate over all these gates.
 fn differ_at(
     alloc: Global,
     first: &Automaton,
