@@ -23,7 +23,7 @@ use dd_derivation::{FalseLiterals, Finding, Step, find};
 use dd_values::Items;
 use std::alloc::{AllocError, Global};
 
-/// How many times, at most, a pass back and a pass forward are made without counts.
+/// How many times, at most, a pass back and a pass forward are made without counts, after a first pass back.
 const FEW: usize = 2;
 
 /// What has followed so far: the values of the variables that have one, and the literals that became true, in order.
