@@ -30,7 +30,7 @@ pub fn first_asked_keeps()
 
 /// Does nothing; its contract is the law that if `FirstAsked` holds, a sound first engine is not skipped: it is still the
 /// first, and it was asked in the meantime. The contract also gives an example in which `FirstAsked` is false: the two engines
-/// of `one_was_asked`, with unchanged counts.
+/// of `one_was_asked`, if neither was asked in the meantime.
 pub fn first_is_not_skipped()
     ensures head { (old : Seen) (before after : List Seen) → old.sound ≡ true → FirstAsked (old ∷ before) after → IsHeadAsked old after }
     ensures pair { FirstAsked one_was_asked one_was_asked → ⊥ }
