@@ -57,8 +57,8 @@ pub record HasWeights (r : LocalRule) (weights : List ℕ) : Type 0 where
 abbrev pub strip_for : LocalRule → List ℕ → Strip
 strip_for r periods = strip_of (slice_index periods 0) (slice_index periods 1) r.nodes
 
--- The rule's transfer graph over the strip (see dd_transfer) has too many states or too many windows. A state gives each cell of a number of
--- consecutive slices a symbol of the alphabet, whether or not the cell's node allows it. A window is like a state, but has one more slice.
+-- The rule's transfer graph over the strip (see dd_transfer) has too many states or too many windows. A state fills consecutive slices: it gives each
+-- of their cells a symbol of the alphabet, whether or not the cell's node allows it. A window is like a state, but has one more slice.
 abbrev pub IsTooLarge : LocalRule → Strip → Type 0
 IsTooLarge r s = (most_states < states r (positions s)) ⊎ (most_windows < window_count r (positions s))
 
