@@ -38,9 +38,9 @@ pub record AsksPeriods (x : LocalRule) (g : GoalOf) (p : Periods) : Type 0 where
   pub periods : ArePeriods x.dimension p
   pub few : question_clauses x g (tile_volume p) ≤ most_clauses
 
--- The decision within the limits n on radii and p on periods. The first radius tried is the least one whose box holds what the goal reads at the
--- origin. The last one is n, or the first one if n is smaller. The decision is the least radius tried that suffices, else a configuration of the
--- first periods that show the goal, else unknown.
+-- The decision within the limits n on radii and p on periods. The first radius that may be tried is the least one whose box holds what the goal reads
+-- at the origin. The last one is n, or the first one if n is smaller. The decision is the least of these radii that suffices, else a configuration of
+-- the first periods that show the goal, else unknown.
 abbrev pub IsDecided : LocalRule → GoalOf → ℕ → ℕ → Decision → Type 0
 IsDecided x g n p decision =
     (least : ℕ) × IsLeastRadius g least
