@@ -28,8 +28,8 @@ pub record AreNamed (known : List (Option (List Literal))) (numbers : List ℕ) 
   pub named : (k : ℕ) → k < length clauses → IsNamed known (slice_index_or numbers k 0) (slice_index_or clauses k [])
 
 -- The elimination is right. Each of its steps is right, and deletes nothing. Each of the m variables of the reduced list has a name: the number of
--- the variable of the whole list that it stands for. Each clause of the reduced list stands for a clause that has the same literals as the clause of
--- the whole list, or of a step, that has its number. The whole list has n variables, fewer than 2^32.
+-- the variable of the whole list that it stands for. Each clause of the reduced list comes with the number of a clause of the whole list or of a
+-- step. It stands for a clause that has the same literals as the clause with this number. The whole list has n variables, fewer than 2^32.
 pub record IsReduction (n : ℕ) (clauses : List (List Literal)) (steps : List Step) (m : ℕ) (reduced : List (List Literal)) (names numbers : List ℕ) : Type 0 where
   pub few : n < 2 ^ 32
   pub derived : derives n clauses steps ≡ true

@@ -1,10 +1,10 @@
 //! The elimination of variables by resolution. To eliminate a variable, the clauses that have it or its negation are replaced
 //! by all their resolvents on it (Davis and Putnam 1960), except those that hold a literal and its negation. This is done only
 //! if it leaves no more clauses than before. Each clause, old or new, has a turn. If it is still in the list then, it is
-//! compared with the other clauses of the list: those that contain all its literals are removed, and a literal of another
-//! clause that it makes redundant is dropped (Eén and Biere 2005). Comparisons and eliminations end when a limit on their work
-//! is reached. Each new clause is the clause of a step. The step's hints are the numbers of the two clauses that the new
-//! clause comes from. (See the file `resolution.rt` for resolvents.)
+//! compared with the other clauses of the list. Those that contain all its literals are removed. If it makes a literal of
+//! another clause redundant, this literal is dropped (Eén and Biere 2005). Comparisons and eliminations end when a limit on
+//! their work is reached. Each new clause is the clause of a step. The step's hints are the numbers of the two clauses that the
+//! new clause comes from. (See the file `resolution.rt` for resolvents.)
 //!
 //! No contract depends on what is done here, since the steps, the remaining clauses and the assignment for the whole list are
 //! checked. No invariant says that the indices kept here are within their lists. So the code tests them. The tests never fail.

@@ -10,7 +10,8 @@ use Rattle.dd_pairs.specs.declared.pair.Pair.{Pair}
 
 -- a question about the configurations that obey a rule, the premise
 pub data ComparisonOf : Type 0 where
-  -- can the image of a configuration under the automaton break the second rule, or give a cell a symbol that the cell's node doesn't allow?
+  -- in the image of a configuration under the automaton, can the second rule be false at a cell, or can a cell have a symbol that its node doesn't
+  -- allow?
   image : LocalRule → Automaton → LocalRule → ComparisonOf
   -- can a configuration change if the second automaton is applied to it, and then the first?
   change : LocalRule → Automaton → Automaton → ComparisonOf
