@@ -17,7 +17,7 @@ use std::alloc::{AllocError, Global};
 /// each cell of the box of this radius around some position, and perhaps to other cells. The YES claims that the goal doesn't
 /// hold at this position. (A filling gives each cell of a set a symbol that the cell's node allows. At a cell, a rule reads the
 /// cells whose symbols its formula asks for there. The filling is admissible for the rule if the rule is true at each cell of
-/// the set for which all cells that the rule reads are in the set too.)
+/// the set at which the rule reads only cells of the set.)
 ///
 /// # Errors
 /// `AllocError` if memory ran out.

@@ -26,7 +26,7 @@ const MOST_COST: u64 = 50_000_000;
 /// the better one.
 #[derive(Clone, Copy, PartialEq, Eq, PartialOrd, Ord)]
 struct Change {
-    /// How much the sum of the penalties of the cells where the rule is false grows. It is negative if the sum shrinks.
+    /// The growth of the sum of the penalties of the cells where the rule is false. It is negative if the sum shrinks.
     growth: i64,
     /// How much heavier the configuration becomes.
     heavier: i64,
@@ -56,7 +56,7 @@ pub(crate) struct LocalSearch<'a> {
     /// For each cell, the number of the last step that changed its symbol, or 0 if no step did.
     changed: Vec<u64>,
     step: u64,
-    /// How many steps in a row changed nothing.
+    /// How many steps in a row changed no symbol.
     idle: u32,
     /// How much the search may cost from one lighter configuration to the next (see `patience_of`).
     patience: u64,
@@ -311,14 +311,14 @@ impl<'a> LocalSearch<'a> {
             }
         }
         for reader in torus.readers(cell) {
+            if growth > most {
+                return None;
+            }
             if !self.is_true(*reader) {
                 growth = growth.saturating_add(self.penalty(*reader));
-                if growth > most {
-                    return None;
-                }
             }
         }
-        Some(growth)
+        if growth > most { None } else { Some(growth) }
     }
 
     /// Whether the rule is true at a cell.

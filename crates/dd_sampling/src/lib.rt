@@ -3,7 +3,8 @@
 //! sample has one configuration, which repeats a box of symbols that is 2 cells wide. The height of this box, also called the
 //! height of the configuration, is twice the sample's number. A text spells a script if it follows the grammar and none of its
 //! commands has a fault. Exceeding a limit is a fault, too. It is proved here that every sample spells a script. The proofs
-//! speak of tokens, the words, numbers and marks of a text, and of lexemes, the tokens as the grammar sees them.
+//! speak of tokens and of lexemes. Tokens are the words, numbers and marks of a text. Lexemes are the tokens as the grammar
+//! sees them.
 #![tactic(auto)]
 
 mod laws;
