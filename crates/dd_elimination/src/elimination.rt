@@ -42,12 +42,13 @@ pub(crate) struct Entry {
     pub is_alive: bool,
 }
 
-/// A variable that was eliminated, and the indices of the clauses that contained it (not of those that contained its
-/// negation).
-#[derive(Drop)]
+/// A variable that was eliminated. The indices of the clauses that contained it (not of those that contained its negation) are
+/// those of `Elimination::replaced` from index `start` up to `end`.
+#[derive(Clone, Copy)]
 pub(crate) struct Eliminated {
     pub variable: u32,
-    pub clauses: Vec<usize>,
+    start: usize,
+    end: usize,
 }
 
 /// A variable to be tried. Candidates with fewer pairs come first.
@@ -82,6 +83,8 @@ pub(crate) struct Elimination {
     /// The indices of the entries that have not been compared with the others yet.
     waiting: Vec<usize>,
     pub eliminated: Vec<Eliminated>,
+    /// For each eliminated variable, the indices of the clauses that contained it, one variable after the other.
+    replaced: Vec<usize>,
     pub steps: Vec<Step>,
     /// How many pairs of literals may still be compared.
     work: u64,
@@ -161,6 +164,7 @@ impl Elimination {
             changed: vec![in alloc; true; count]?,
             waiting: Vec::new(alloc),
             eliminated: Vec::new(alloc),
+            replaced: Vec::new(alloc),
             steps: Vec::new(alloc),
             work: MOST_WORK,
         };
@@ -187,6 +191,15 @@ impl Elimination {
     /// The literals of an entry.
     pub(crate) fn literals_of(&self, entry: &Entry) -> &[Literal] {
         part(self.literals.as_slice(), entry.start, entry.end)
+    }
+
+    /// The indices of the clauses that contained a variable before it was eliminated.
+    pub(crate) fn clauses_of(&self, eliminated: &Eliminated) -> &[usize] {
+        let Eliminated { start, end, .. } = *eliminated;
+        if start <= end && end <= self.replaced.len() {
+            return &self.replaced[start..end];
+        }
+        &[]
     }
 
     /// Adds a clause. Its literals are the last ones of `literals`, from index `start` on. It waits to be compared with the
@@ -464,9 +477,13 @@ impl Elimination {
         for index in sides.negative.as_slice() {
             self.remove(*index);
         }
+        let start = self.replaced.len();
+        self.replaced.extend_from_slice(sides.positive.as_slice())?;
+        let end = self.replaced.len();
         self.eliminated.push(Eliminated {
             variable,
-            clauses: Vec::from_slice(alloc, sides.positive.as_slice())?,
+            start,
+            end,
         })?;
         Ok(true)
     }

@@ -229,7 +229,7 @@ impl Elimination {
 
     /// Whether some clause that contains the variable has no other true literal.
     fn has_to_be_true(&self, eliminated: &Eliminated, values: &[bool]) -> bool {
-        for index in eliminated.clauses.as_slice() {
+        for index in self.clauses_of(eliminated) {
             if let Some(entry) = self.entries.get(*index) {
                 if !has_other_true(self.literals_of(entry), eliminated.variable, values) {
                     return true;
