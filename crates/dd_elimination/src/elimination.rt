@@ -225,8 +225,8 @@ impl Elimination {
         Ok(())
     }
 
-    /// Adds a clause that follows from two others, its parents, and the step that says so. The clause's literals are the last
-    /// ones of `literals`, from index `start` on.
+    /// Adds a clause that follows from two others (its parents), and adds the step that says so. The clause's literals are the
+    /// last ones of `literals`, from index `start` on.
     fn derive(&mut self, alloc: Global, start: usize, parents: [u64; 2]) -> Result<(), AllocError> {
         let literals = part(self.literals.as_slice(), start, self.literals.len());
         self.steps.push(Step {
