@@ -396,7 +396,7 @@ fn weight_of(weights: &[u32], symbol: u32) -> u32 {
     weights.get(symbol as usize).copied().unwrap_or(0)
 }
 
-/// The growth that a change may have at most, if it is to be better than this one. If there is none, any growth will do.
+/// The greatest growth with which a change can still be better than `best`. If `best` is `None`, any growth will do.
 fn most_growth(best: Option<Change>) -> i64 {
     match best {
         Some(change) => change.growth,
