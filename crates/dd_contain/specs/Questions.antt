@@ -24,14 +24,14 @@ Displays x g p t = HasPeriods p t × IsWitness x g t
 abbrev pub ShowsAt : LocalRule → GoalOf → Periods → Type 0
 ShowsAt x g p = (t : Tile) × Displays x g p t
 
--- the search may ask about this radius: the goal is one for questions with this premise, the box holds what the goal reads at the origin, and its
+-- the search may ask about this radius: a question with this premise may have this goal, the box holds what the goal reads at the origin, and its
 -- clauses are few enough
 pub record AsksRadius (x : LocalRule) (g : GoalOf) (n : ℕ) : Type 0 where
   pub goal : IsGoalFor x g
   pub reaches : Reaches g n
   pub few : question_clauses x g (volume (centred x.dimension n)) ≤ most_clauses
 
--- the search may ask about these periods: the goal is one for questions with this premise, they are periods in the premise's dimension and within the
+-- the search may ask about these periods: a question with this premise may have this goal, they are periods in the premise's dimension and within the
 -- limit for all questions, and the clauses of their torus are few enough
 pub record AsksPeriods (x : LocalRule) (g : GoalOf) (p : Periods) : Type 0 where
   pub goal : IsGoalFor x g
