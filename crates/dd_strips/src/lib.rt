@@ -9,12 +9,12 @@
 //! move along x from one period along y to the next.) Each symbol has a weight, and the density of a configuration is its
 //! weight per position.
 //!
-//! `dd_transfer` defines the transfer graph, with its states, edges, windows and tested slices. A state consists of
-//! consecutive slices, with symbols for their cells. An edge drops a state's first slice and adds a slice after the last one.
-//! The edge weighs what the added slice weighs. The certificate is either a closed walk of this graph with an integer for each
-//! state, its potential, or a natural number for each state, its rank. The walk's mean is its weight divided by its length,
-//! and m / l is this mean in lowest terms. Along each edge of weight w, the potential rises by at most l * w - m. The rank
-//! falls along each edge.
+//! `dd_transfer` defines the transfer graph, with its states, edges, windows and tested slices. A state consists of consecutive
+//! slices, with symbols for their cells. An edge drops a state's first slice and adds a slice after the last one. The edge
+//! weighs what the added slice weighs. There are two kinds of certificates. One is a closed walk of this graph, with an integer
+//! for each state, its potential. The other is a natural number for each state, its rank. The walk's mean is its weight divided
+//! by its length, and m / l is this mean in lowest terms. Along each edge of weight w, the potential rises by at most
+//! l * w - m. The rank falls along each edge.
 #![tactic(auto)]
 
 mod laws;
