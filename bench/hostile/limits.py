@@ -176,8 +176,8 @@ def limit_scripts() -> Iterator[Tuple[str, str]]:
     inner = f"%auto f when {all_of('o=0', 9990)} give 1 else 0 %auto g when o=0 give 1 else 0 "
     yield "compose: 996 of 19,989 parts", inner + " ".join(f"%compose {word(number)} g f" for number in range(996)) + " %rule r o=0 %empty r"
     both = "%limits 0 1 0 " + " ".join(f"%auto {name} when {all_of('o=0', 9000)} give 0 else 1" for name in "fg") + f" %rule x {all_of('o=0', 9000)} "
-    yield "maps: 995 of 18,000 parts, and a fault", both + "%maps f x x " * 995 + "%empty no"
-    yield "conjugate: 995 of 18,000 parts, and a fault", both + "%conjugate f g x x " * 995 + "%empty no"
+    yield "maps: 995 of 27,009 parts, over the limit", both + "%maps f x x " * 995 + "%empty no"
+    yield "conjugate: 995 of 27,009 parts, over the limit", both + "%conjugate f g x x " * 995 + "%empty no"
 
 
 # ---- Scripts of the greatest length

@@ -9,7 +9,7 @@ use dd_respond::one_response;
 use dd_script::Script;
 
 /// Does nothing. Its contract says that all right answers to a query of the script have the same first line, and that either
-/// all of them are UNKNOWN or none is. So they differ only in their evidence.
+/// all of them are UNKNOWN or none is. So they can differ only in the lines after the first.
 pub fn one_line(script: &Script)
     ensures { (query : AnyQuery) (a b : AnyAnswer) → Contains script.now.queries query → Right script.now query a → Right script.now query b → SayTheSame a b }
 {

@@ -15,7 +15,7 @@ pub mod Witnesses
 pub mod Laws
 -- the goals of the code, as contracts see them
 pub mod Views
--- what a discharging question may ask: along which vectors weight is given, and what the symbols weigh
+-- which vectors and which weights a discharging question may have: weight is given along the vectors, and each symbol has a weight
 pub mod Discharges
 -- how many clauses a box question has at most
 pub mod Counts

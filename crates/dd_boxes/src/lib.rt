@@ -6,8 +6,8 @@
 //!
 //! The crate also says which periods a torus may have. A torus stands for the configurations that repeat along the vectors
 //! `(x, 0, 0)`, `(s, y, 0)` and `(0, 0, z)`. Here x, y and z are its periods, and s is its shear. The specs also bound the
-//! number of clauses that encode a box question on a box or a torus. And they say what a discharging question may ask: along
-//! which vectors weight is given, and what the symbols weigh.
+//! number of clauses that encode a box question on a box or a torus. And they say which vectors and which weights a discharging
+//! question may have: weight is given along the vectors, and each symbol has a weight.
 #![tactic(auto)]
 
 mod goals;

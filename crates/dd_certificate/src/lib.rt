@@ -1,7 +1,7 @@
-//! Answers to queries with their certificates, and the texts of answers. A certificate is all that is needed to check an
-//! answer without a search. Some queries ask whether a claim holds, such as that one subshift contains another. Many
-//! certificates hold a refutation of some clauses: a list of steps that derive further clauses, up to the empty one. An output
-//! is what a run of a script writes: the script, the answers to its queries in order, and the end.
+//! Answers to queries with their certificates, and the texts of answers. A certificate is all that is needed to check an answer
+//! without a search. Some queries ask whether a claim holds, such as that one subshift contains another. Many certificates hold
+//! a refutation of some clauses: a list of steps that derive further clauses, up to the empty one. An output is what a run of a
+//! script writes: the script, the answers to its queries in order, and the line `end`.
 //!
 //! Each position of Z^d has one or more nodes. A cell is a position together with one of its nodes. A configuration gives a
 //! symbol to each cell. A rule is a formula about a cell and the cells near it. A rule's subshift is the set of the

@@ -2,12 +2,12 @@
 //! A certificate is an answer with all that is needed to check it without a search. In this crate, a certificate for a query
 //! must also be an answer that an output can hold: its numbers and lists are within the bounds that `dd_certificate` states.
 //! The specs say which answers are certificates, and what a certificate claims. An answer is accepted exactly when it is a
-//! certificate for its query. The check makes no search for an answer, and trusts none.
+//! certificate for its query. The check makes no search for an answer, and trusts no search that was made.
 //!
 //! Each position of Z^d has the same number of nodes, one or more. A cell is a position together with one of its nodes. A
 //! configuration gives a symbol to each cell. A rule is a formula about a cell and the cells near it. It is broken at a
-//! position if it is false at one of the position's nodes. A configuration obeys a rule if the rule is true at every cell. An
-//! automaton maps configurations to configurations, their images.
+//! position if it is false at one of the position's nodes. A configuration obeys a rule if each cell has a symbol that its node
+//! allows, and the rule is true at every cell. An automaton maps configurations to configurations, their images.
 //!
 //! Some queries ask box questions. A box question has a rule, which is called its premise, and a goal: a property of a
 //! position, such as that another rule is broken there. It asks whether no configuration that obeys the premise has the goal at

@@ -9,6 +9,7 @@ ghost use Rattle.dd_cnf.specs.Models.{HasValuesAsModels};
 
 use dd_circuit::{Circuit, Gate, Signal};
 use dd_clause::{Clause, Cnf, Literal};
+use smallvec::SmallVec;
 use std::alloc::{AllocError, Global};
 
 /// The literal that is true exactly when the signal is.
@@ -61,7 +62,7 @@ fn push_and_or(
         ≡ cnf.old.clauses ++ spec.and_or_clauses gate members.now) }
 {
     // the last clause: `gate` is true, or some member makes it false
-    let mut last = Vec::with_capacity(alloc, members.len() + 1)?;
+    let mut last: SmallVec<Literal, 4> = SmallVec::with_capacity(alloc, members.len() + 1)?;
     last.push(gate)?;
     for member in members {
         push_clause(
@@ -71,7 +72,7 @@ fn push_and_or(
         )?;
         last.push(signed(member, !gate.positive))?;
     }
-    push_clause(alloc, cnf, &last)
+    push_clause(alloc, cnf, last.as_slice())
 }
 
 /// Adds the clauses of an `Iff` gate. They say that the literal `gate` is true exactly when `a` and `b` have the same value.

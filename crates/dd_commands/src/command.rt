@@ -103,8 +103,8 @@ pub enum Command {
         inner: Word,
     },
     /// `conf name [period ..] [shear ..] symbol ..`: a periodic configuration. The second vector, the shear, may be left out.
-    /// How many numbers it has isn't limited here. Neither vector has a negative number. The symbols are those of the box that
-    /// repeats, in cell order: by z, then y, then x, then the node.
+    /// How many numbers a vector has isn't limited here. Neither vector has a negative number. The symbols are those of the box
+    /// that repeats, in cell order: by z, then y, then x, then the node.
     Configuration {
         name: Word,
         periods: Vector,

@@ -10,7 +10,7 @@ pub mod Templates
 pub mod ValueGates
 -- the signals of the cells that an automaton reads, and what the signals of the automaton's value say
 pub mod ValueSignals
--- the gates of an automaton's value, and what they say wherever they stand
+-- the gates of an automaton's value, and what they say wherever they stand in a circuit
 pub mod Valued
 -- what the gates of a composition require, and what holds once the gates of the inner values are there
 pub mod composing

@@ -1,4 +1,4 @@
--- The gates of an automaton's value, and what they say wherever they stand.
+-- The gates of an automaton's value, and what they say wherever they stand in a circuit.
 use Rattle.std.specs.Prelude.{ℕ, ◌≡◌, ◌<◌, ◌≤◌, ◌+◌, ◌-◌, ◌*◌, Bool, true, All, length}
 use Rattle.dd_lattice.specs.{Place.most_coordinate, declared.position.Cell.Cell}
 use Rattle.dd_topology.specs.Topology.{extent}

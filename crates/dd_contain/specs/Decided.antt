@@ -5,14 +5,14 @@ use Rattle.dd_pattern.specs.{declared.periods.Periods.Periods, Periods.AreWithin
 use Rattle.dd_contain.specs.declared.decision.Decision.{Decision}
 use Rattle.dd_contain.specs.declared.decision.Decision.TheVariants.{Yes, No, Unknown}
 
--- n is the least number from least to most that satisfies S
+-- n is the least number from `least` to `most` that satisfies S
 pub record IsLeast (S : ℕ → Type 0) (least most n : ℕ) : Type 0 where
   pub low : least ≤ n
   pub high : n ≤ most
   pub holds : S n
   pub first : (k : ℕ) → least ≤ k → k < n → S k → ⊥
 
--- no number from least to most satisfies S
+-- no number from `least` to `most` satisfies S
 abbrev pub NoneIn : (ℕ → Type 0) → ℕ → ℕ → Type 0
 NoneIn S least most = (k : ℕ) → least ≤ k → k ≤ most → S k → ⊥
 

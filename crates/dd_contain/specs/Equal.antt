@@ -1,5 +1,6 @@
--- The equality of two rules: whether no configuration that obeys one of them breaks the other. The answers to this question are called Same (YES),
--- Differ (NO) and Open (unknown) here. Those to the two box questions keep the names Yes, No and Unknown.
+-- The equality of two rules: whether no configuration that obeys one of them breaks the other. This comes down to two box questions, each with one of
+-- the rules as its premise. The answers to the question of equality are called Same (YES), Differ (NO) and Open (unknown) here. Those to the two box
+-- questions keep the names Yes, No and Unknown.
 use Rattle.std.specs.Prelude.{ℕ, ◌≡◌}
 use Rattle.dd_derivation.specs.Sizes.{AreNumbered}
 use Rattle.dd_formula.specs.LocalRule.{LocalRule}

@@ -24,23 +24,23 @@ Displays x g p t = HasPeriods p t × IsWitness x g t
 abbrev pub ShowsAt : LocalRule → GoalOf → Periods → Type 0
 ShowsAt x g p = (t : Tile) × Displays x g p t
 
--- the search may ask about this radius: the goal is one for questions with this premise, the box holds what the goal reads at the origin, and its
+-- the search may ask about this radius: a question with this premise may have this goal, the box holds what the goal reads at the origin, and its
 -- clauses are few enough
 pub record AsksRadius (x : LocalRule) (g : GoalOf) (n : ℕ) : Type 0 where
   pub goal : IsGoalFor x g
   pub reaches : Reaches g n
   pub few : question_clauses x g (volume (centred x.dimension n)) ≤ most_clauses
 
--- the search may ask about these periods: the goal is one for questions with this premise, they are periods in the premise's dimension and within the
+-- the search may ask about these periods: a question with this premise may have this goal, they are periods in the premise's dimension and within the
 -- limit for all questions, and the clauses of their torus are few enough
 pub record AsksPeriods (x : LocalRule) (g : GoalOf) (p : Periods) : Type 0 where
   pub goal : IsGoalFor x g
   pub periods : ArePeriods x.dimension p
   pub few : question_clauses x g (tile_volume p) ≤ most_clauses
 
--- The decision within the limits n on radii and p on periods. The first radius tried is the least one whose box holds what the goal reads at the
--- origin. The last one is n, or the first one if n is smaller. The decision is the least radius tried that suffices, else a configuration of the
--- first periods that show the goal, else unknown.
+-- The decision within the limits n on radii and p on periods. The first radius that may be tried is the least one whose box holds what the goal reads
+-- at the origin. The last one is n, or the first one if n is smaller. The decision is the least of these radii that suffices, else a configuration of
+-- the first periods that show the goal, else unknown.
 abbrev pub IsDecided : LocalRule → GoalOf → ℕ → ℕ → Decision → Type 0
 IsDecided x g n p decision =
     (least : ℕ) × IsLeastRadius g least

@@ -1,8 +1,8 @@
 //! Decides box questions, and the equality of two rules. A cell is a position of Z^d together with one of its nodes. A
 //! configuration gives each cell a symbol that the cell's node allows. It obeys a rule if the rule is true at every cell, and
 //! breaks it otherwise. Two rules are equal if no configuration that obeys one of them breaks the other. A box question has a
-//! rule, the premise, and a goal: a property of a position, such as that a given rule is broken there. It asks whether no
-//! configuration that obeys the premise has the goal at any position.
+//! premise, which is a rule, and a goal, which is a property of a position, such as that a given rule is broken there. It asks
+//! whether no configuration that obeys the premise has the goal at any position.
 //!
 //! The box of radius n consists of the positions of Z^d whose coordinates are from -n to n. The search goes through boxes of
 //! growing radius, until one has no admissible filling with the goal at the origin: its radius suffices. (A filling gives each
@@ -18,9 +18,9 @@
 //! Each box and each torus becomes a list of clauses. The clauses can be satisfied exactly when the box has an admissible
 //! filling with the goal at the origin, or the torus has a configuration that shows the goal. A refutation of clauses is a list
 //! of steps. Each step derives a further clause, and the last one derives the empty clause. An engine is any value that may
-//! propose an assignment or a refutation. A proposal is right if it satisfies or refutes the clauses, and an engine is sound if
-//! all that it proposes is right. A roster is a list of engines. The engines of a roster are asked about the clauses first. If
-//! none of them makes a right proposal, a solver decides.
+//! propose an assignment or a refutation. A proposal is right if it satisfies or refutes the clauses. If an engine counts as
+//! sound, all that it proposes is right. A roster is a list of engines. The engines of a roster are asked about the clauses
+//! first. If none of them makes a right proposal, a solver decides.
 #![tactic(auto)]
 
 mod decision;

@@ -1,6 +1,6 @@
 //! Box questions as the search asks them: each box and each torus becomes a list of clauses to be satisfied or refuted. The
-//! solver has two styles, which differ in how it chooses the next variable. In the broad style, a conflict counts for a long
-//! time. In the focused style, the latest conflicts count most.
+//! solver has several styles, which differ in how it chooses the next variable. Two of them are used here. In the broad style,
+//! a conflict counts for a long time. In the focused style, the latest conflicts count most.
 ghost use Rattle.std.specs.Prelude.{◌≡◌, ◌↔◌, ◌≤◌, true, IfOk, IfSome};
 ghost use Rattle.dd_boxes.specs.Boxes.{Suffices};
 ghost use Rattle.dd_boxes.specs.Goals.{IsGoalFor};

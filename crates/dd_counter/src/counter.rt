@@ -1,8 +1,8 @@
 //! The counter: gates that say how much the first cells weigh. A signal is a variable or its negation. An input is a variable
-//! that says that a cell has a certain symbol. Each gate has a variable of its own, with the gate's value. `below` is the
-//! bound on the weight. Each cell has a row of `below` signals, which gates make from the cell's inputs and the row of the
-//! cell before. The signal with the index `most`, counted from 0, says that the cells up to and including this one weigh more
-//! than `most`.
+//! that says that a cell has a certain symbol. Each gate has a variable of its own, with the gate's value. `below` is the bound
+//! on the weight. Each cell has a row of `below` signals. Gates make them from the cell's inputs and the row of the cell
+//! before. The signal with the index `most`, counted from 0, says that the cells up to and including this one weigh more than
+//! `most`.
 ghost use Rattle.std.specs.Prelude.{◌≡◌, ◌≤◌, ◌<◌, ◌+◌, ◌*◌, ◌++◌, ◌∷◌, [], suc, length, All, IfOk, OnOk};
 ghost use Rattle.dd_values.specs.Bounds.{most_variables};
 ghost use Rattle.dd_circuit.specs.Circuits.{IsSignal, IsGate, signal_of};

@@ -1,5 +1,5 @@
-//! The laws of the least weight, as the contract of a function that does nothing: what a refutation of the clauses of
-//! `weight_clauses` says about the weights of configurations, and facts about these clauses. The laws hold for any shear.
+//! The laws of the least weight, as the contract of a function that does nothing: what a refutation of the clauses that ask for
+//! a weight below a bound says about the weights of configurations, and facts about these clauses. The laws hold for any shear.
 ghost use Rattle.std.specs.Prelude.{◌≡◌, ℕ, List, length};
 ghost use Rattle.dd_pattern.specs.declared.periods.Periods.{Periods as AnyPeriods};
 ghost use Rattle.dd_boxes.specs.TorusPeriods.{AreTorusPeriods};

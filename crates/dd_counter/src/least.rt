@@ -120,8 +120,8 @@ fn encoding_size(rule: &Rule, periods: [u32; 3]) -> u64 {
         .saturating_mul(u64::from(z))
 }
 
-/// Any living configuration, or steps that refute the clauses that ask for one. If a local search follows (see `lightened`),
-/// the configuration may be heavy. So in this case, one in which all cells have the same symbol is tried first.
+/// Any living configuration, or steps that refute the clauses that ask for one. If a local search follows (see `lightened`), a
+/// heavy configuration will do. So in this case, one in which all cells have the same symbol is tried first.
 fn first_living(
     alloc: Global,
     rule: &Rule,

@@ -26,7 +26,7 @@ const MOST_COST: u64 = 50_000_000;
 /// the better one.
 #[derive(Clone, Copy, PartialEq, Eq, PartialOrd, Ord)]
 struct Change {
-    /// How much the sum of the penalties of the cells where the rule is false grows. It is negative if the sum shrinks.
+    /// The growth of the sum of the penalties of the cells where the rule is false. It is negative if the sum shrinks.
     growth: i64,
     /// How much heavier the configuration becomes.
     heavier: i64,
@@ -56,7 +56,7 @@ pub(crate) struct LocalSearch<'a> {
     /// For each cell, the number of the last step that changed its symbol, or 0 if no step did.
     changed: Vec<u64>,
     step: u64,
-    /// How many steps in a row changed nothing.
+    /// How many steps in a row changed no symbol.
     idle: u32,
     /// How much the search may cost from one lighter configuration to the next (see `patience_of`).
     patience: u64,
@@ -165,11 +165,10 @@ impl<'a> LocalSearch<'a> {
     fn lighten_all(&mut self) {
         for cell in 0..self.symbols.len() {
             for symbol in 0..self.rule.symbols() {
-                if let Some(change) = self.lighter(cell, symbol) {
-                    if change.growth == 0 {
-                        self.put(cell, symbol);
-                        self.weight = self.weight.saturating_add_signed(change.heavier);
-                    }
+                // The rule is true everywhere. So no growth is negative.
+                if let Some(change) = self.lighter(cell, symbol, 0) {
+                    self.put(cell, symbol);
+                    self.weight = self.weight.saturating_add_signed(change.heavier);
                 }
             }
         }
@@ -184,7 +183,7 @@ impl<'a> LocalSearch<'a> {
         for cell in 0..count {
             if self.is_rested(cell) {
                 for symbol in 0..self.rule.symbols() {
-                    best = better(best, self.lighter(cell, symbol));
+                    best = better(best, self.lighter(cell, symbol, most_growth(best)));
                 }
             }
         }
@@ -200,7 +199,7 @@ impl<'a> LocalSearch<'a> {
         for cell in torus.reads(worst) {
             if self.is_rested(*cell) {
                 for symbol in 0..self.rule.symbols() {
-                    best = better(best, self.change(*cell, symbol));
+                    best = better(best, self.change(*cell, symbol, most_growth(best)));
                 }
             }
         }
@@ -255,16 +254,16 @@ impl<'a> LocalSearch<'a> {
         i64::from(weight_of(self.weights, symbol)).saturating_sub(old)
     }
 
-    /// The change that gives the cell this symbol, if the symbol is lighter and allowed.
-    fn lighter(&mut self, cell: usize, symbol: u32) -> Option<Change> {
+    /// The change that gives the cell this symbol, if the symbol is lighter and allowed, and the growth is at most `most`.
+    fn lighter(&mut self, cell: usize, symbol: u32, most: i64) -> Option<Change> {
         if self.heavier(cell, symbol) >= 0 {
             return None;
         }
-        self.change(cell, symbol)
+        self.change(cell, symbol, most)
     }
 
-    /// The change that gives the cell this symbol, if the symbol is another one and allowed.
-    fn change(&mut self, cell: usize, symbol: u32) -> Option<Change> {
+    /// The change that gives the cell this symbol, if the symbol is another one and allowed, and the growth is at most `most`.
+    fn change(&mut self, cell: usize, symbol: u32, most: i64) -> Option<Change> {
         let node = self.torus.node(cell)?;
         if symbol == self.symbol(cell) || node >= self.rule.nodes() {
             return None;
@@ -273,7 +272,7 @@ impl<'a> LocalSearch<'a> {
             return None;
         }
         Some(Change {
-            growth: self.growth(cell, symbol),
+            growth: self.growth(cell, symbol, most)?,
             heavier: self.heavier(cell, symbol),
             changed: self.changed.get(cell).copied()?,
             cell,
@@ -281,24 +280,45 @@ impl<'a> LocalSearch<'a> {
         })
     }
 
-    /// The growth of the change that gives a cell this symbol (see `Change`).
-    fn growth(&mut self, cell: usize, symbol: u32) -> i64 {
-        let torus = self.torus;
+    /// The growth of the change that gives a cell this symbol (see `Change`), or `None` if it is greater than `most`.
+    fn growth(&mut self, cell: usize, symbol: u32, most: i64) -> Option<i64> {
+        self.pay_for(cell);
         let old = self.symbol(cell);
         self.put(cell, symbol);
-        let mut growth = 0i64;
+        let growth = self.growth_at_readers(cell, most);
+        self.put(cell, old);
+        growth
+    }
+
+    /// Pays for a test of the rule at each cell that reads this one, also for tests that `growth_at_readers` leaves out. So the
+    /// search takes the same steps as if all tests were made.
+    fn pay_for(&mut self, cell: usize) {
+        let torus = self.torus;
         for reader in torus.readers(cell) {
             self.pay(torus.cost(*reader));
-            let is_true = self.is_true(*reader);
-            let was_false = self.was_false(*reader);
-            if was_false && is_true {
+        }
+    }
+
+    /// The growth of the change that was just made at this cell, or `None` if it is greater than `most`. At first, the growth
+    /// is what it would be if the rule were now true at each cell that reads this one. Then these cells are tested, and each of
+    /// them where the rule is false adds its penalty. Once the growth is greater than `most`, no more cells are tested.
+    fn growth_at_readers(&mut self, cell: usize, most: i64) -> Option<i64> {
+        let torus = self.torus;
+        let mut growth = 0i64;
+        for reader in torus.readers(cell) {
+            if self.was_false(*reader) {
                 growth = growth.saturating_sub(self.penalty(*reader));
-            } else if !was_false && !is_true {
+            }
+        }
+        for reader in torus.readers(cell) {
+            if growth > most {
+                return None;
+            }
+            if !self.is_true(*reader) {
                 growth = growth.saturating_add(self.penalty(*reader));
             }
         }
-        self.put(cell, old);
-        growth
+        if growth > most { None } else { Some(growth) }
     }
 
     /// Whether the rule is true at a cell.
@@ -374,6 +394,14 @@ fn patience_of(torus: &TorusRule) -> u64 {
 /// The weight of a symbol.
 fn weight_of(weights: &[u32], symbol: u32) -> u32 {
     weights.get(symbol as usize).copied().unwrap_or(0)
+}
+
+/// The greatest growth with which a change can still be better than `best`. If `best` is `None`, any growth will do.
+fn most_growth(best: Option<Change>) -> i64 {
+    match best {
+        Some(change) => change.growth,
+        None => i64::MAX,
+    }
 }
 
 /// The better of two changes, each of which may be missing.

@@ -56,7 +56,7 @@ impl Remembered {
         })
     }
 
-    /// The place of the pattern that a cell has under these symbols. `None` if nothing is remembered.
+    /// The place of the pattern that a cell has under these symbols. `None` if the memory has no places.
     fn place(&self, torus: &TorusRule, cell: usize, symbols: &[u32]) -> Option<usize> {
         let start = *self.starts.get(cell)?;
         let mut pattern = 0usize;

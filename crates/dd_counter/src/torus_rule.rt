@@ -62,7 +62,7 @@ pub(crate) struct TorusRule {
 /// An estimate of the cost of evaluating a formula whose encoding has this many clauses. Usually only a small part of the
 /// formula is looked at, so the cost is far less than the number of clauses.
 fn cost_of(clauses: u64) -> u64 {
-    1 + clauses / 32
+    1 + clauses / 16
 }
 
 impl TorusRule {

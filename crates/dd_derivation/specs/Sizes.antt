@@ -4,7 +4,8 @@ use Rattle.dd_values.specs.Bounds.{most_variables}
 use Rattle.dd_clause.specs.Clauses.{ClauseList}
 use Rattle.dd_derivation.specs.declared.step.Step.{Step}
 
--- the sizes of a check's memory: it has a mark for each of `variables` variables, and a truth value for each of the `numbers` clauses and steps
+-- the sizes of a check's memory: it has a mark for each variable, and a truth value for each clause and each step; there are `variables` marks and
+-- `numbers` truth values
 pub record Sizes : Type 0 where
   pub variables : ℕ
   pub numbers : ℕ

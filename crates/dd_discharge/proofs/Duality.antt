@@ -1,9 +1,7 @@
--- Weak duality: no amounts let each position hold more than the duals are worth. Each position holds at least the value of
--- column 0. Take the double sum, over the rows and the columns, of dual times coefficient times column. Taken column by column,
--- it is at least the value of column 0. The reason is that the columns are at least 0, and that the sum, over the rows, of dual
--- times coefficient is at least 1 in column 0 and at least 0 in the other columns. Taken row by row, the double sum is at most
--- what the duals are worth, which is the sum of dual times right side. The reason is that the rows hold and the duals are at
--- least 0.
+-- Weak duality: no amounts meet the rows with more in column 0 than the duals are worth. Take the double sum, over the rows and the columns, of dual
+-- times coefficient times column. Taken column by column, it is at least the value of column 0. The reason is that the columns are at least 0, and
+-- that the sum, over the rows, of dual times coefficient is at least 1 in column 0 and at least 0 in the other columns. Taken row by row, the double
+-- sum is at most what the duals are worth, which is the sum of dual times right side. The reason is that the rows hold and the duals are at least 0.
 use Rattle.std.proofs.Common.{◌≡◌, ℕ, zero, suc, ◌+◌, ◌*◌, ◌/◌, ◌%◌, ◌<◌, ◌≤◌, List, [], ◌∷◌, length, refl, sym, ap, subst, ◌∙◌, slice_index, arith}
 use Rattle.std.proofs.lemmas.{Nat.div-add-mod', Int.ints}
 use lib.IntN.{ℤ, pos, negsuc, ◌+ℤ◌, ◌*ℤ◌, *ℤ_comm}

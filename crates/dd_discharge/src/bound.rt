@@ -11,8 +11,8 @@ pub struct Bound {
     pub denominator: u64,
     /// The common denominator of the amounts and the duals, at least 1.
     pub common: u64,
-    /// The numerators of the amounts, one for each column of the program after the first: vector by vector, and for each vector
-    /// pattern by pattern.
+    /// The numerators of the amounts, one for each column of the program after the first: vector by vector, and within each
+    /// vector, pattern by pattern.
     pub amounts: Items<u64>,
     /// The numerators of the duals, one for each row of the program.
     pub duals: Items<u64>,

@@ -1,9 +1,10 @@
 //! Bounds by discharging. A cell is a position of Z^d together with one of its nodes. A rule is a formula about a cell and the
 //! cells near it. In a discharge, each position first holds the weight of its symbols. Then, along each vector v of a list,
 //! each position p gives an amount to the position p + v. The amount depends on v and on the pattern around p: the symbols of
-//! the box of a given radius around p. A bound is a number such that the origin holds at least this number in the end, in each
-//! admissible filling of a finite set of cells, the ground (see below). This crate finds the best bound of a rule along some
-//! vectors, says what certifies it, and checks claimed bounds.
+//! the box of a given radius around p. A bound is a number that is at most the number of nodes times the greatest weight of a
+//! symbol, and such that the origin holds at least this number in the end, in each admissible filling of a finite set of cells,
+//! the ground (see below). This crate finds the best bound of a rule along some vectors, says what certifies it, and checks
+//! claimed bounds.
 //!
 //! The best bound is the value of a linear program, the program of the rule along the vectors. `dd_rows` makes this program,
 //! and a run of the simplex method solves it in `dd_simplex`. Column 0 stands for the bound, and each other column for an

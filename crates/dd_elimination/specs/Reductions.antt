@@ -7,8 +7,8 @@ use Rattle.dd_solver.specs.searching.{Search.all_known, Marking.kept_step}
 use Rattle.dd_elimination.specs.Renaming.{AreNames, new_name, renamed, renamed_step}
 
 -- The number that a clause gets in the refutation of the whole list. `number` is its number in the refutation of the reduced list. `numbers` has the
--- new number of each clause of the reduced list. The clauses of the steps get the numbers after `before`, but 2^64 - 1 in place of any greater
--- number.
+-- new number of each clause of the reduced list. The clauses of the steps of this refutation get the numbers that follow `before`, or 2^64 - 1 if
+-- that number would be greater.
 abbrev pub whole_number : List ℕ → ℕ → ℕ → ℕ
 whole_number numbers before number =
     if nat_lt (length numbers) number then min (before + (number - length numbers)) (2 ^ 64 - 1)
@@ -28,8 +28,8 @@ pub record AreNamed (known : List (Option (List Literal))) (numbers : List ℕ) 
   pub named : (k : ℕ) → k < length clauses → IsNamed known (slice_index_or numbers k 0) (slice_index_or clauses k [])
 
 -- The elimination is right. Each of its steps is right, and deletes nothing. Each of the m variables of the reduced list has a name: the number of
--- the variable of the whole list that it stands for. Each clause of the reduced list stands for a clause that has the same literals as the clause of
--- the whole list, or of a step, that has its number. The whole list has n variables, fewer than 2^32.
+-- the variable of the whole list that it stands for. Each clause of the reduced list comes with the number of a clause of the whole list or of a
+-- step. It stands for a clause that has the same literals as the clause with this number. The whole list has n variables, fewer than 2^32.
 pub record IsReduction (n : ℕ) (clauses : List (List Literal)) (steps : List Step) (m : ℕ) (reduced : List (List Literal)) (names numbers : List ℕ) : Type 0 where
   pub few : n < 2 ^ 32
   pub derived : derives n clauses steps ≡ true

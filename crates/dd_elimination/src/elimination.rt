@@ -1,10 +1,10 @@
 //! The elimination of variables by resolution. To eliminate a variable, the clauses that have it or its negation are replaced
 //! by all their resolvents on it (Davis and Putnam 1960), except those that hold a literal and its negation. This is done only
 //! if it leaves no more clauses than before. Each clause, old or new, has a turn. If it is still in the list then, it is
-//! compared with the other clauses of the list: those that contain all its literals are removed, and a literal of another
-//! clause that it makes redundant is dropped (Eén and Biere 2005). Comparisons and eliminations end when a limit on their work
-//! is reached. Each new clause is the clause of a step. The step's hints are the numbers of the two clauses that the new
-//! clause comes from. (See the file `resolution.rt` for resolvents.)
+//! compared with the other clauses of the list. Those that contain all its literals are removed. If it makes a literal of
+//! another clause redundant, this literal is dropped (Eén and Biere 2005). Comparisons and eliminations end when a limit on
+//! their work is reached. Each new clause is the clause of a step. The step's hints are the numbers of the two clauses that the
+//! new clause comes from. (See the file `resolution.rt` for resolvents.)
 //!
 //! No contract depends on what is done here, since the steps, the remaining clauses and the assignment for the whole list are
 //! checked. No invariant says that the indices kept here are within their lists. So the code tests them. The tests never fail.
@@ -42,12 +42,13 @@ pub(crate) struct Entry {
     pub is_alive: bool,
 }
 
-/// A variable that was eliminated, and the indices of the clauses that contained it (not of those that contained its
-/// negation).
-#[derive(Drop)]
+/// A variable that was eliminated. The indices of the clauses that contained it (not of those that contained its negation) are
+/// those of `Elimination::replaced` from index `start` up to `end`.
+#[derive(Clone, Copy)]
 pub(crate) struct Eliminated {
     pub variable: u32,
-    pub clauses: Vec<usize>,
+    start: usize,
+    end: usize,
 }
 
 /// A variable to be tried. Candidates with fewer pairs come first.
@@ -82,6 +83,8 @@ pub(crate) struct Elimination {
     /// The indices of the entries that have not been compared with the others yet.
     waiting: Vec<usize>,
     pub eliminated: Vec<Eliminated>,
+    /// For each eliminated variable, the indices of the clauses that contained it, one variable after the other.
+    replaced: Vec<usize>,
     pub steps: Vec<Step>,
     /// How many pairs of literals may still be compared.
     work: u64,
@@ -161,6 +164,7 @@ impl Elimination {
             changed: vec![in alloc; true; count]?,
             waiting: Vec::new(alloc),
             eliminated: Vec::new(alloc),
+            replaced: Vec::new(alloc),
             steps: Vec::new(alloc),
             work: MOST_WORK,
         };
@@ -189,6 +193,15 @@ impl Elimination {
         part(self.literals.as_slice(), entry.start, entry.end)
     }
 
+    /// The indices of the clauses that contained a variable before it was eliminated.
+    pub(crate) fn clauses_of(&self, eliminated: &Eliminated) -> &[usize] {
+        let Eliminated { start, end, .. } = *eliminated;
+        if start <= end && end <= self.replaced.len() {
+            return &self.replaced[start..end];
+        }
+        &[]
+    }
+
     /// Adds a clause. Its literals are the last ones of `literals`, from index `start` on. It waits to be compared with the
     /// others.
     fn add(&mut self, start: usize, number: u64) -> Result<(), AllocError> {
@@ -212,8 +225,8 @@ impl Elimination {
         Ok(())
     }
 
-    /// Adds a clause that follows from two others, its parents, and the step that says so. The clause's literals are the last
-    /// ones of `literals`, from index `start` on.
+    /// Adds a clause that follows from two others (its parents), and adds the step that says so. The clause's literals are the
+    /// last ones of `literals`, from index `start` on.
     fn derive(&mut self, alloc: Global, start: usize, parents: [u64; 2]) -> Result<(), AllocError> {
         let literals = part(self.literals.as_slice(), start, self.literals.len());
         self.steps.push(Step {
@@ -464,9 +477,13 @@ impl Elimination {
         for index in sides.negative.as_slice() {
             self.remove(*index);
         }
+        let start = self.replaced.len();
+        self.replaced.extend_from_slice(sides.positive.as_slice())?;
+        let end = self.replaced.len();
         self.eliminated.push(Eliminated {
             variable,
-            clauses: Vec::from_slice(alloc, sides.positive.as_slice())?,
+            start,
+            end,
         })?;
         Ok(true)
     }

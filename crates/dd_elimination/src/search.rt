@@ -21,7 +21,7 @@ const MOST_CLAUSES: usize = 200_000;
 /// Finds an assignment that satisfies the clauses, or steps that refute them. The variables that unit propagation fixes are
 /// eliminated first, unless this propagation falsifies a clause. Then the clauses that remain are searched in the given style
 /// (see `Style` in `dd_trail`). On the clauses of questions about boxes and tori, this is faster than `solve_with` of
-/// `dd_solver`. Where that would give a long refutation, this mostly gives a shorter one.
+/// `dd_solver`. Where `solve_with` would give a long refutation, `solve_propagated` mostly gives a shorter one.
 ///
 /// # Errors
 /// `AllocError` if memory ran out.
@@ -102,7 +102,7 @@ fn find_reduced(alloc: Global, cnf: &Cnf) -> Result<Option<Outcome>, AllocError>
     let Some(reduced) = elimination.reduced(alloc, cnf)? else {
         return Ok(None);
     };
-    match solve_with(alloc, &reduced.cnf, Style::Focused)? {
+    match solve_with(alloc, &reduced.cnf, Style::Selective)? {
         Outcome::Found(assignment) => {
             let whole = elimination.extended(alloc, &reduced, &assignment)?;
             Ok(confirmed(cnf, whole))

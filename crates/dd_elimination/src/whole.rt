@@ -88,8 +88,9 @@ pub(crate) fn renumbered_step(alloc: Global, numbers: &[u64], before: u64, step:
     }
 }
 
-/// The literal of the whole list that a literal of the reduced list stands for. `names` has the variables (see `Reduced`).
-/// `None` if the variable isn't among them, which never happens.
+/// The literal of the whole list that a literal of the reduced list stands for. `names` has, for each variable of the reduced
+/// list, its number in the whole list (see `Reduced`). `None` if the literal's variable isn't in the reduced list, which never
+/// happens.
 fn original(names: &[u32], literal: Literal) -> Option<Literal>
     ensures { IfSome result (λ l. l ≡ renamed (new_name names.now) literal) }
 {
@@ -228,7 +229,7 @@ impl Elimination {
 
     /// Whether some clause that contains the variable has no other true literal.
     fn has_to_be_true(&self, eliminated: &Eliminated, values: &[bool]) -> bool {
-        for index in eliminated.clauses.as_slice() {
+        for index in self.clauses_of(eliminated) {
             if let Some(entry) = self.entries.get(*index) {
                 if !has_other_true(self.literals_of(entry), eliminated.variable, values) {
                     return true;

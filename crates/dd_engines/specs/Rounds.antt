@@ -52,8 +52,8 @@ pub record AskedSince (old new : Seen) : Type 0 where
   pub later : Later old new
   pub asked : Rose old.asked new.asked
 
--- The engines at a later time, as `Kept` says. In addition, the first engine left, if there is one, was asked in the meantime. Only
--- engines that aren't sound were dropped before it.
+-- The engines at a later time, as `Kept` says. In addition, the first engine left, if there is one, was asked in the meantime. The engines that stood
+-- ahead of it were all dropped, and none of these is sound.
 pub data FirstAsked : List Seen → List Seen → Type 0 where
   nobody : FirstAsked [] []
   first : {old new : Seen} {before after : List Seen} → AskedSince old new → Kept before after → FirstAsked (old ∷ before) (new ∷ after)

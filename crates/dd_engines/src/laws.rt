@@ -30,7 +30,7 @@ pub fn first_asked_keeps()
 
 /// Does nothing; its contract is the law that if `FirstAsked` holds, a sound first engine is not skipped: it is still the
 /// first, and it was asked in the meantime. The contract also gives an example in which `FirstAsked` is false: the two engines
-/// of `one_was_asked`, with unchanged counts.
+/// of `one_was_asked`, if neither was asked in the meantime.
 pub fn first_is_not_skipped()
     ensures head { (old : Seen) (before after : List Seen) → old.sound ≡ true → FirstAsked (old ∷ before) after → IsHeadAsked old after }
     ensures pair { FirstAsked one_was_asked one_was_asked → ⊥ }
@@ -42,9 +42,9 @@ pub fn first_asked_earlier()
     ensures { (before between after : List Seen) → Kept before between → FirstAsked between after → FirstAsked before after }
 {}
 
-/// Does nothing; its contract is the law that a walk repeats itself once it is back in an earlier state: after equal states,
-/// it goes through equal states. A state consists of the values of the variables and, for each clause, the literal that the
-/// next flip would pick from the clause. If no assignment before the walk is back satisfies the clauses, no later one does.
+/// Does nothing; its contract is the law that a walk repeats itself once it is back in an earlier state: after equal states, it
+/// goes through equal states. A state consists of the values of the variables and, for each clause, the literal that the next
+/// flip would pick from the clause. If the walk reaches no satisfying assignment before it is back, it never reaches one.
 pub fn walk_repeats()
     ensures same { (cnf : ClauseList) (j k : ℕ) → IsSameState cnf j k → (d : ℕ) → IsSameState cnf (j + d) (k + d) }
     ensures none { (cnf : ClauseList) (j k : ℕ) → j < k → IsSameState cnf j k → NoneBefore cnf k → (n : ℕ) → NoneBefore cnf n }

@@ -23,7 +23,7 @@ use dd_derivation::{FalseLiterals, Finding, Step, find};
 use dd_values::Items;
 use std::alloc::{AllocError, Global};
 
-/// How many times, at most, a pass back and a pass forward are made without counts.
+/// How many times, at most, a pass back and a pass forward are made without counts, after a first pass back.
 const FEW: usize = 2;
 
 /// What has followed so far: the values of the variables that have one, and the literals that became true, in order.
@@ -230,8 +230,8 @@ fn pass_back(trail: &mut Trail, clauses: &[Clause]) -> Result<Option<usize>, All
     Ok(None)
 }
 
-/// Makes a pass back. Then makes, at most `FEW` times, a pass back and a pass forward. All these passes are without counts.
-/// Stops at a conflict, or when a pass forward changes nothing. Returns how far the last pass got.
+/// Makes a pass back. Then makes, at most `FEW` times, another pass back and a pass forward. All these passes are without
+/// counts. Stops at a conflict, or when a pass forward changes nothing. Returns how far the last pass got.
 fn few_passes(alloc: Global, trail: &mut Trail, clauses: &[Clause]) -> Result<Progress, AllocError>
     requires in_range { All (IsClauseInRange (length trail.old.values.items)) clauses.now }
     requires follows { Follows clauses.now trail.old.entries.items trail.old.values.items }

@@ -71,8 +71,8 @@ impl<E: Engine> Roster<E> {
     /// Asks the engines in order, from the first on and each at most once, until one makes a right proposal. Returns this
     /// proposal, or `None` if no engine makes one. If memory runs out, the call fails. An engine whose proposal is wrong is
     /// dropped. The others keep their order, even if the call fails. If it succeeds and an engine is left, then the first one
-    /// left was asked, and the engines dropped before it aren't sound. So if the call succeeds, and the engine that was first
-    /// before the call is sound, this engine was asked.
+    /// left was asked, and the engines that stood ahead of it aren't sound. So if the call succeeds, and the engine that was
+    /// first before the call is sound, this engine was asked.
     pub fn ask(&mut self, alloc: Global, cnf: &Cnf) -> Result<Option<Outcome>, AllocError>
         ensures right { IfOk result (λ answer. IfSome answer (IsRightOutcome cnf.now)) }
         ensures round { Round (roster_seen E.asked E.given E.sound self.old) (roster_seen E.asked E.given E.sound self.new) (round_end result) }

@@ -1,9 +1,9 @@
-//! How answers write cells, configurations, and the patterns that a rule forbids. Each position of Z^d has one or more nodes.
-//! A cell is a position together with one of its nodes. A configuration gives a symbol to each cell. A rule is a formula about
-//! a cell and the cells near it. It has an alphabet, and may allow only some of its symbols at a node. A rule reads a cell at
-//! a node if the rule's formula there asks for the cell's symbol. A filling gives each cell that the rule reads at a node a
-//! symbol of the alphabet. It breaks the rule, or is breaking, if the cells' nodes allow these symbols and the rule is false
-//! under them.
+//! How answers write cells, configurations, and the patterns that a rule forbids. Each position of Z^d has one or more nodes. A
+//! cell is a position together with one of its nodes. A configuration gives a symbol to each cell. A rule is a formula about a
+//! cell and the cells near it. It has an alphabet, and may allow only some of its symbols at a node. The cells that a rule
+//! reads at a node are those whose symbols the rule's formula asks for there. A filling gives a symbol of the alphabet to each
+//! cell that the rule reads at a node. It breaks the rule, or is breaking, if the cells' nodes allow these symbols and the rule
+//! is false under them.
 //!
 //! A pattern gives allowed symbols to all, some or none of the cells that the rule reads at a node, and leaves out the others.
 //! It is forbidden if the rule is false at the node, whatever allowed symbols the other cells have. A forbidden pattern is

@@ -52,7 +52,7 @@ impl Fault {
     /// The message for standard error.
     pub fn message(self) -> &'static str {
         match self {
-            Fault::Words => "the word is answer, check or squares, or there is none",
+            Fault::Words => "give one of the words answer, check and squares, or no word",
             Fault::Input => "no input",
             Fault::Script => "no script",
             Fault::Output => "no output of diddy",

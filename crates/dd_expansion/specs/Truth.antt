@@ -1,5 +1,5 @@
 -- The truth of a formula, by recursion on the formula (Tarski 1933). A cell may have no symbol. Then it is false that it has a given symbol, and it
--- is false that it has the same symbol as some cell, even if this cell is itself.
+-- is false that it has the same symbol as another cell or as itself.
 use Rattle.std.specs.Prelude.{ℕ, ◌==◌, ◌||◌, not, Bool, false, List, [], ◌∷◌, ◌++◌, Option, Some, None}
 use Rattle.std.specs.{Bool.beq, List.list_all, List.list_any}
 use Rattle.dd_lattice.specs.declared.position.Cell.{Cell}

@@ -1,4 +1,4 @@
-//! How many clauses an expansion takes once it is written as a circuit of gates, and the gates as clauses.
+//! How many clauses an expansion takes: it is written as a circuit, and each gate of the circuit is written as clauses.
 ghost use Rattle.std.specs.Prelude.{◌≡◌, ◌+◌, ◌^◌, ◌<◌, ◌≤◌};
 ghost use Rattle.dd_expansion.specs.Leaves.{instances, clause_count};
 

@@ -58,9 +58,9 @@ pub enum Limit {
     /// `MOST_STATES` states, and there are at most `MOST_WINDOWS` windows (see `dd_counts`). A slice consists of the strip's
     /// cells with one value of x. A state is a filling of successive slices, and a window fills one slice more.
     States,
-    /// A box question has a rule and a goal, which may hold at a position. It asks whether no configuration that obeys the
-    /// rule has the goal at any position. There is an upper bound for the number of the question's clauses, on the largest box
-    /// or torus that a search may try. There is another one for the number of clauses of a query for the least weight on a
+    /// A box question has a rule and a goal, which may hold at a position. It asks whether no configuration that obeys the rule
+    /// has the goal at any position. The question's clauses are those of the largest box or torus that a search may try. There
+    /// is an upper bound for their number. There is another one for the number of clauses of a query for the least weight on a
     /// torus (see `dd_question`). Both bounds are at most `MOST_CLAUSES`.
     Clauses,
 }

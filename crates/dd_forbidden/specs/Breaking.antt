@@ -41,7 +41,7 @@ pub record AreBreakingFillings (r : LocalRule) (a : ℕ) (fs : List Filled) : Ty
   pub symbols : List (List ℕ)
   pub fillings : fs ≡ map (filled (cells_at r a)) symbols
   pub breaking : BreakingFillings r a symbols
-  -- the number of fillings is within the limit
+  -- the number of all fillings of the cells over the whole alphabet is within the limit
   pub few : is_large r a ≡ false
 
 -- which fault is right: `Size` if there are too many fillings, else `Memory`

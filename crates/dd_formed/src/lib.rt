@@ -6,7 +6,8 @@
 //! of two automata. All its rules must have a given dimension, number of nodes and number of symbols. There must be at least
 //! one node, and each symbol that the automaton gives must exist. The automaton must be within the limits on instances, on
 //! reach (how far away it reads cells) and on how deep its compositions are nested, and so must all automata of which it is
-//! composed. `Rule` says what positions, nodes and cells are. `Rule` and `Automaton::instances` say what instances are.
+//! composed. A position is a point of the lattice Z^d, where d is the dimension. `Rule` says what nodes and cells are. `Rule`
+//! and `Automaton::instances` say what instances are.
 #![tactic(auto)]
 
 mod automata;

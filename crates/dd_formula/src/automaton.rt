@@ -80,7 +80,7 @@ impl Cases {
     }
 
     /// The number of instances that the automaton with these cases has at a node, or `MOST_INSTANCES + 1` if there are more
-    /// than `MOST_INSTANCES`. The contract also says that the rules read only cells within the limit on reach there.
+    /// than `MOST_INSTANCES`. The contract also says that all cells that the rules read there lie within the limit on reach.
     pub(crate) fn instances(&self, node: u32) -> u32
         requires { HasCaseNode self.now node }
         ensures count { result ≡ cut most_instances (case_instances node self.now.cases + 1) }

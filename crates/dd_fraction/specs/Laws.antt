@@ -51,7 +51,7 @@ pub record AreOrderLaws : Type 0 where
   pub greater : (a b : Exact) → IsBelow b a → exact_cmp a b ≡ Greater
   pub equal : (a b : Exact) → low a ≡ low b → exact_cmp a b ≡ Equal
 
--- the order of sums, products and opposites, and when differences, sums, products and inverses are at least 0 or positive
+-- the order of sums, products and opposites, and the signs of differences, sums, products and inverses
 pub record AreOrderedFieldLaws : Type 0 where
   pub sums : (a b c d : Exact) → IsAtMost a b → IsAtMost c d → IsAtMost (plus a c) (plus b d)
   pub products : (a b c : Exact) → IsNonneg c → IsAtMost a b → IsAtMost (times a c) (times b c)

@@ -1,4 +1,4 @@
--- The dimension of a script's lattice, and the names of what a script has defined, by the role of a word in a query.
+-- The dimension of a script's lattice, and the names that a word in a query may be, by the word's role.
 use Rattle.std.specs.Prelude.{ℕ, List}
 use Rattle.dd_known.specs.Tree.{Role, Known}
 

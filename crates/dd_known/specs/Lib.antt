@@ -2,7 +2,7 @@
 pub mod Tree
 -- limits on what a script may write
 pub mod Limits
--- the dimension of a script's lattice, and the names of what a script has defined, by the role of a word in a query
+-- the dimension of a script's lattice, and the names that a word in a query may be, by the word's role
 pub mod Known
 -- the facts that always hold for what a script has defined
 pub mod Sound

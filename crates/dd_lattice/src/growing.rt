@@ -96,7 +96,7 @@ fn grown(alloc: Global, region: &Region, dim: u32, by: u32) -> Result<Region, La
 
 impl Region {
     /// All positions whose distance from some member of the region is at most `by` on each of the first `dim` axes, and 0 on
-    /// the others. `dim` is 1, 2 or 3. The fault is `Range` if a coordinate would exceed 2^20 in absolute value.
+    /// the others. `dim` is 1, 2 or 3. The fault is `Range` only if a coordinate would exceed 2^20 in absolute value.
     pub fn grow(&self, alloc: Global, dim: u32, by: u32) -> Result<Region, LatticeFault>
         requires least { 1 ≤ dim }
         requires most { dim ≤ 3 }

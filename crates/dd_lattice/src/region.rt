@@ -73,7 +73,7 @@ impl Region {
         }
     }
 
-    /// The region moved by `by`: `by` is added to each position. The fault is `Range` if a coordinate would exceed 2^20 in
+    /// The region moved by `by`: `by` is added to each position. The fault is `Range` only if a coordinate would exceed 2^20 in
     /// absolute value.
     pub fn shifted(&self, alloc: Global, by: &Position) -> Result<Region, LatticeFault>
         ensures list { IfOk result (λ r. r ≡ map (λ p. moved p by.now) self.now) }
@@ -92,7 +92,8 @@ impl Region {
     }
 }
 
-/// The positions of a region, each moved by `by`. The fault is `Range` if a coordinate would exceed 2^20 in absolute value.
+/// The positions of a region, each moved by `by`. The fault is `Range` only if a coordinate would exceed 2^20 in absolute
+/// value.
 fn all_moved(alloc: Global, list: &[Position], by: &Position) -> Result<Vec<Position>, LatticeFault>
     requires { IsRegion list.now }
     ensures list { IfOk result (λ v. v.items ≡ map (λ p. moved p by.now) list.now) }

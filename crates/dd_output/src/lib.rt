@@ -6,11 +6,11 @@
 //! with these bytes and the wrong one. Wherever reading stops, a text completes what was read: appended to the bytes before
 //! that point, it makes the text of an output.
 //!
-//! The grammar of answers is a table. Each row is for one kind of answer, or for two kinds whose texts begin alike. `Answer`
-//! in `dd_certificate` says what the parts of an answer mean. Each position of Z^d has one or more nodes. A cell is a position
+//! The grammar of answers is a table. Each row is for one kind of answer, or for two kinds whose texts begin alike. `Answer` in
+//! `dd_certificate` says what the parts of an answer mean. Each position of Z^d has one or more nodes. A cell is a position
 //! together with one of its nodes. A configuration gives a symbol to each cell. A periodic configuration is given by its
-//! periods, its shear and the symbols of the box that repeats. Its periods are the lengths of its period vectors, each along
-//! its own axis. Its shear is how far the second period vector goes along the first axis.
+//! periods, its shear and the symbols of the box that repeats. Its n-th period is how far its n-th period vector goes along the
+//! n-th axis. Its shear is how far the second period vector goes along the first axis.
 //!
 //! Most functions that take bytes are readers. A reader reads the value with which the bytes begin, and returns it with the
 //! bytes after it. It stops where a byte is wrong or missing. Its doc comment names what it reads.

@@ -29,7 +29,7 @@ pub record GivesMore (old new : Option (List ℕ)) (limit : ℕ) : Type 0 where
   pub consumed : Consumes old new given
   pub many : limit < length given
 
--- A read gave `count` bytes. All bytes read so far were `before`, and are `after` now. The count is 0 only at the end of the source.
+-- A read gave `count` bytes. The list of all bytes read so far was `before`, and is `after` now. The count is 0 only at the end of the source.
 pub record ReadsOn (old new : Option (List ℕ)) (before after : List ℕ) (count : ℕ) : Type 0 where
   pub given : List ℕ
   pub consumed : Consumes old new given

@@ -10,7 +10,8 @@ use Rattle.dd_pairs.specs.declared.pair.Pair.{Pair}
 
 -- a question about the configurations that obey a rule, the premise
 pub data ComparisonOf : Type 0 where
-  -- can the image of a configuration under the automaton break the second rule, or give a cell a symbol that the cell's node doesn't allow?
+  -- in the image of a configuration under the automaton, can the second rule be false at a cell, or can a cell have a symbol that its node doesn't
+  -- allow?
   image : LocalRule → Automaton → LocalRule → ComparisonOf
   -- can a configuration change if the second automaton is applied to it, and then the first?
   change : LocalRule → Automaton → Automaton → ComparisonOf
@@ -25,11 +26,11 @@ abbrev pub IsComparisonOf : Setting → ComparisonOf → Type 0
 IsComparisonOf s (image x f y) = IsRuleOf s x × IsAutomatonOf s f × IsRuleOf s y
 IsComparisonOf s (change x f g) = IsRuleOf s x × IsAutomatonOf s f × IsAutomatonOf s g
 
--- The pair of a comparison. For an image, its two automata differ exactly at the cells at which the second rule is false in the image or the image
--- has a symbol that isn't allowed. The left automaton applies the comparison's automaton, and then `marked` of the second rule. So it gives 0 at the
--- cells at which the second rule is true in the image and the image has an allowed symbol, and 1 at all others. The right automaton always gives 0.
--- For a change, the two automata differ exactly at the cells whose symbol changes. The left automaton applies the second automaton of the comparison
--- and then the first. The right automaton leaves each symbol as it is.
+-- The pair of a comparison. For an image, the two automata of the pair differ exactly at the cells at which the second rule is false in the image or
+-- the image has a symbol that isn't allowed. The left automaton applies the comparison's automaton, and then `marked` of the second rule. So it gives
+-- 0 at the cells at which the second rule is true in the image and the image has an allowed symbol, and 1 at all others. The right automaton always
+-- gives 0. For a change, the two automata differ exactly at the cells whose symbol changes. The left automaton applies the second automaton of the
+-- comparison and then the first. The right automaton leaves each symbol as it is.
 abbrev pub pair_of : Setting → ComparisonOf → Pair
 pair_of s (image x f y) = record { left = Composed (marked s.topology s.sets y) f; right = always_zero s.topology s.sets }
 pair_of s (change x f g) = record { left = Composed f g; right = identity s.topology s.sets }

@@ -30,7 +30,7 @@ map_comparisons x y f = image x f y ∷ []
 abbrev pub conjugate_comparisons : LocalRule → LocalRule → Automaton → Automaton → List ComparisonOf
 conjugate_comparisons x y f g = image x f y ∷ image y g x ∷ change x g f ∷ change y f g ∷ []
 
--- the comparisons that a query consists of; the query's numbers are indices into these rules and automata
+-- the comparisons that a query consists of; the numbers of a query about an image or a conjugacy are indices into these rules and automata
 abbrev pub comparisons_asked : List LocalRule → List Automaton → Query → List ComparisonOf
 comparisons_asked rs fs (Query.Maps f x y) = unwrap_or (of_three map_comparisons (slice_get rs x) (slice_get rs y) (slice_get fs f)) []
 comparisons_asked rs fs (Query.Conjugate f g x y) = unwrap_or (of_four conjugate_comparisons (slice_get rs x) (slice_get rs y) (slice_get fs f) (slice_get fs g)) []

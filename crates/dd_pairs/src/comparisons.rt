@@ -4,8 +4,8 @@ use dd_formula::{Automaton, Rule};
 /// A question about the configurations that obey a rule, the premise.
 #[derive(Clone, Copy)]
 pub(crate) enum Comparison<'a> {
-    /// Can the image of a configuration under the map break the target, or give a cell a symbol that the cell's node doesn't
-    /// allow?
+    /// In the image of a configuration under the map, can the target be false at a cell, or can a cell have a symbol that its
+    /// node doesn't allow?
     Image {
         premise: &'a Rule,
         map: &'a Automaton,

@@ -4,11 +4,12 @@
 //!
 //! A query about an image asks whether an automaton maps the configurations that obey one rule to configurations that obey
 //! another, the target. A query about a conjugacy asks whether two automata do this in both directions and are inverse to each
-//! other. A query of either kind consists of questions, each about one pair: can the two automata of the pair differ at a
-//! position of a configuration that obeys a rule? The rule is the question's premise. The question's goal, which may hold at a
-//! position, is that the automata differ there (see `dd_boxes`). The pairs are made when the query is read. The query is
-//! refused if a pair exceeds a limit on instances, reach or depth (see `Limit` of `dd_faults`), or if the question about a
-//! pair takes too many clauses (see `dd_question`). The pairs are made again when the query is answered or checked.
+//! other. A query of either kind consists of questions, each about one pair: do the two automata of the pair agree at every
+//! position of each configuration that obeys a rule? The rule is the question's premise. The question's goal, which may hold at
+//! a position, is that the automata differ there (see `dd_boxes`). The pairs are made when the query is read. The query is
+//! refused if a pair exceeds a limit on instances, reach or depth (see `Limit` of `dd_faults`), or if the question about a pair
+//! takes too many clauses (see `dd_question`). The pairs are made again when the query is answered, and when an answer to it is
+//! checked.
 #![tactic(auto)]
 
 mod comparisons;

@@ -76,7 +76,7 @@ fn made(alloc: Global, known: &Known, comparisons: &[Comparison]) -> Result<Item
 }
 
 /// The pairs that a query asks about, in the order of its questions. There are none unless the query is about an image or a
-/// conjugacy. The query's numbers are indices into `rules` and `automata`.
+/// conjugacy. The numbers of such a query are indices into `rules` and `automata`.
 ///
 /// # Errors
 /// The first limit that is exceeded, or a lack of memory. The questions are tested in order, each first for the limits on its

@@ -8,7 +8,8 @@ use dd_compile::says_its_value;
 use dd_formula::Rule;
 
 /// Does nothing but bring in facts. Its contract says that the goal's rule satisfies the invariant of rules, that the goal's
-/// automata read only cells of the lattice, and that the gates made for their values compute these values.
+/// automata read only cells with a position in Z^d and one of the premise's nodes, and that the gates made for their values
+/// compute these values.
 pub(crate) fn goal_facts(premise: &Rule, goal: &Goal)
     requires { IsGoalFor premise.now (goal_of premise.now goal.now) }
     ensures { HasGoalFacts premise.now (goal_of premise.now goal.now) }

@@ -1,6 +1,7 @@
 //! Box questions (`dd_boxes`) as clauses. Each position has the same nodes. A cell is a position together with one of its
-//! nodes. Cells are numbered from 0 in cell order: by z, then y, then x, then the node. A cell that is relative to a position v
-//! stands for the cell moved by v. A position is in range if each of its coordinates is at most 2^20 in absolute value.
+//! nodes. The cells of a box are numbered from 0 in cell order: by z, then y, then x, then the node. A cell that is relative to
+//! a position v stands for the cell moved by v. A position is in range if each of its coordinates is at most 2^20 in absolute
+//! value.
 //!
 //! A box question has a rule, which is its premise, and a goal, which may hold at a position. There are three kinds of goal: a
 //! given rule is broken (false at some node of the position), two given automata have different values at some node of the

@@ -1,5 +1,6 @@
-//! The program: its arguments, standard input and output, engines and exit code. An engine is asked before a search, and may
-//! propose the search's result.
+//! The program: its arguments, standard input and output, engines and exit code. Box questions (see `dd_session`) are answered
+//! by searches for assignments that satisfy lists of clauses. Before such a search, engines are asked in turn, until one
+//! proposes a right result.
 #![tactic(auto)]
 
 use dd_engines::{Engine, Propagator, Roster, Walker};

@@ -119,8 +119,8 @@ fn conjugate(context: &Context, request: &Request) -> Query
     }
 }
 
-/// The query with this syntax tree. There must be a node, and the query must be as `IsQueryWithin` says. No entry of the
-/// vectors of a discharging query may be over 4 in absolute value.
+/// The query with this syntax tree. The script must have at least one node, and the query must be as `IsQueryWithin` says. No
+/// entry of the vectors of a discharging query may be over 4 in absolute value.
 fn asked(alloc: Global, context: &Context, request: &Request) -> Result<Query, AllocError>
     requires within { IsQueryWithin context.now.known (query_of context.now request.now) }
     requires nodes { 1 ≤ length context.now.known.setting.nodes }

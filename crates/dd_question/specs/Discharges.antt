@@ -20,5 +20,5 @@ pub data IsDischargeFault (x : LocalRule) (reach growth : ℕ) (vs : List Place)
   radius_fault : ¬ (reach ≤ widest_radius) → IsDischargeFault x reach growth vs ws fault.Radius
   margin_fault : reach ≤ widest_radius → ¬ (growth ≤ widest_radius) → IsDischargeFault x reach growth vs ws fault.Margin
   vectors_fault : reach ≤ widest_radius → growth ≤ widest_radius → ¬ AreVectors x.dimension vs → IsDischargeFault x reach growth vs ws fault.Vectors
-  amounts_fault : reach ≤ widest_radius → growth ≤ widest_radius → AreVectors x.dimension vs → ¬ AreWeightsFor x ws →
+  discharge_weights_fault : reach ≤ widest_radius → growth ≤ widest_radius → AreVectors x.dimension vs → ¬ AreWeightsFor x ws →
       IsDischargeFault x reach growth vs ws fault.Weights

@@ -245,7 +245,7 @@ fn are_vectors(dimension: u32, vectors: &[Position]) -> bool
 }
 
 /// Tests the parts of a discharge question.
-#[tactic(auto, using(crate::specs::Questions::discharge_fault, crate::specs::Discharges::radius_fault, crate::specs::Discharges::margin_fault, crate::specs::Discharges::vectors_fault, crate::specs::Discharges::amounts_fault))]
+#[tactic(auto, using(crate::specs::Questions::discharge_fault, crate::specs::Discharges::radius_fault, crate::specs::Discharges::margin_fault, crate::specs::Discharges::vectors_fault, crate::specs::Discharges::discharge_weights_fault))]
 pub(crate) fn check_discharge(
     rule: &Rule,
     radius: u32,

@@ -42,7 +42,7 @@ pub data IsReasonOf : DischargeFault → Reason → Type 0 where
   for_pivots : IsReasonOf fault.Pivots reason.Pivots
 
 -- If the simplex method ends with a bound whose numbers are small enough for an output, a right answer gives this bound, with evidence that it is the
--- best. Otherwise a right answer is UNKNOWN, with the reason why no bound is found.
+-- best. Otherwise a right answer is UNKNOWN, with the reason why it gives no bound.
 pub data IsRightDischarge (x : LocalRule) (radius margin : ℕ) (vs : List Place) (ws : List ℕ) (pivots : ℕ) : Answer → Type 0 where
   right_bound : {p q n : ℕ} {amounts duals : List ℕ} → IsBoundOf x ws radius margin vs pivots (bound_claimed p q n amounts duals) →
       IsBoundCertificate x ws radius margin vs (bound_claimed p q n amounts duals) → IsRightDischarge x radius margin vs ws pivots (answer.Bound p q n amounts duals)

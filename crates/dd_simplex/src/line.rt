@@ -71,7 +71,7 @@ impl Line {
     }
 
     /// Subtracts from the line a multiple of the solved line `pivot`. The factor is the line's old cell at `e`. Before the
-    /// subtraction, this cell is set to 0. Returns false if a number is too large.
+    /// pivot's cells are subtracted, this cell is set to 0. Returns false if a number is too large.
     fn take_multiple(&mut self, e: usize, pivot: &Line) -> bool
         requires place { e < length self.old.cells }
         requires size { length self.old.cells ≡ length pivot.now.cells }

@@ -283,7 +283,8 @@ fn bump_kept(order: &mut Order, literals: &[Literal]) {
     }
 }
 
-/// For each of these literals whose variable was not decided, marks the variables of the clause that forced it.
+/// For each of these literals whose variable was not decided, marks the variables of the clause that forced the variable's
+/// value.
 fn mark_reasons(database: &Database, trail: &Trail, marked: &mut [bool], literals: &[Literal])
     requires { AreInRange (length marked.old) database.now }
 {
@@ -294,7 +295,8 @@ fn mark_reasons(database: &Database, trail: &Trail, marked: &mut [bool], literal
     }
 }
 
-/// For each of these literals whose variable was not decided, calls `bump_marked` for the clause that forced it.
+/// For each of these literals whose variable was not decided, calls `bump_marked` for the clause that forced the variable's
+/// value.
 fn bump_reasons(
     order: &mut Order,
     database: &Database,
@@ -329,7 +331,7 @@ fn bump_again(
 
 /// Learns a clause from a conflict: `conflict` is the number of a clause whose literals are all false. The variables of the
 /// clauses that the hints name become more active, unless they are fixed. In the broad style (see `Style`), `bump_again` makes
-/// some variables more active after that. Later conflicts then count for more.
+/// some variables more active after that. At the end, in every style, `decay` makes later conflicts count for more.
 pub(crate) fn learn(
     alloc: Global,
     database: &Database,
@@ -349,7 +351,7 @@ pub(crate) fn learn(
     let literals = learned.literals.as_slice();
     match order.style() {
         Style::Broad => bump_again(order, database, trail, marked, literals),
-        Style::Focused => {}
+        Style::Focused | Style::Selective => {}
     }
     order.decay();
     Ok(learned)

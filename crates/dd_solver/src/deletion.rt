@@ -3,13 +3,14 @@
 //! its literals got their values. A clause is worth more if it has fewer levels (Audemard and Simon 2009). From time to time a
 //! review deletes the worse half of the learned clauses that may be deleted (see `find_candidates`). Whatever a review chooses,
 //! `spare_reasons` and `take_chosen` then leave out the reasons of entries, the clauses of the list, and the clauses that are
-//! no longer alive. So no contract depends on the counts kept here.
+//! no longer alive. So no contract depends on the counts kept here. In the selective style (see `Style`), the counts also
+//! choose variables that become more active.
 ghost use Rattle.std.specs.Prelude.{◌≡◌, ℕ, List, ◌<◌, false, length, IfOk, Some, slice_index_or};
 ghost use Rattle.dd_clause.specs.declared.clause.Literal.{Literal};
 ghost use Rattle.dd_solver.specs.searching.Deleting.{AreChosen, MayDelete};
 
 use dd_clause::Literal;
-use dd_trail::{Database, Entry, Trail};
+use dd_trail::{Database, Entry, Order, Style, Trail};
 use std::alloc::{AllocError, Global};
 
 /// The first review comes with the clause that is learned after this many.
@@ -143,6 +144,38 @@ impl Deletion {
             let levels = self.count_levels(trail, literals, most);
             if place < self.levels.len() {
                 self.levels[place] = levels;
+            }
+        }
+    }
+
+    /// The lowest count so far of the levels of the clause that forced the variable's value. `None` if no learned clause did.
+    fn reason_levels(&self, trail: &Trail, clauses: usize, variable: u32) -> Option<u32> {
+        let reason = trail.reason(variable)?;
+        let place = self.place(clauses, reason)?;
+        self.levels.get(place).copied()
+    }
+
+    /// In the selective style (see `Style`), makes some of these variables more active: those whose values were forced, at or
+    /// after the last decision, by a learned clause that has fewer levels than the one noted last (Audemard and Simon 2009).
+    pub(crate) fn bump_selected(
+        &self,
+        order: &mut Order,
+        trail: &Trail,
+        clauses: usize,
+        variables: &[u32],
+    ) {
+        match order.style() {
+            Style::Broad | Style::Focused => return,
+            Style::Selective => {}
+        }
+        let newest = self.levels.last().copied().unwrap_or(0);
+        for variable in variables {
+            if trail.is_latest(*variable) {
+                if let Some(levels) = self.reason_levels(trail, clauses, *variable) {
+                    if levels < newest {
+                        order.bump(*variable);
+                    }
+                }
             }
         }
     }

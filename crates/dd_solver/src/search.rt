@@ -107,8 +107,8 @@ impl<'a> Search<'a> {
     }
 
     /// Makes forced literals true, until it finds a falsified clause, or finds no clause that forces a literal. Returns the
-    /// number of the falsified clause, or `None`. While some variable has no value, the contract allows the call to miss such
-    /// clauses. Once each variable has a value, `None` means that no clause is falsified.
+    /// number of the falsified clause, or `None`. While some variable has no value, the contract allows `None` even if some
+    /// clause is falsified or forces a literal. Once each variable has a value, `None` means that no clause is falsified.
     fn propagate(&mut self) -> Result<Option<u64>, AllocError>
         ensures same { (self.new.variables ≡ self.old.variables) × (self.new.clauses ≡ self.old.clauses) × (self.new.steps ≡ self.old.steps) }
         ensures conflict { IfOk result (λ conflict. MatchOption conflict (IsFull self.new.variables self.new.entries → AreOpen self.new) (IsFalsified self.new)) }
@@ -158,6 +158,12 @@ impl<'a> Search<'a> {
             learned.literals.as_slice(),
             learned.hints.as_slice(),
         )?;
+        self.deletion.bump_selected(
+            &mut self.order,
+            &self.trail,
+            self.clauses.len(),
+            learned.variables.as_slice(),
+        );
         let clause = Clause::from_literals(alloc, learned.literals.as_slice())?;
         let hints = Items::from_slice(alloc, learned.hints.as_slice())?;
         let deletes = Items::from_vec(numbers);
@@ -172,7 +178,7 @@ impl<'a> Search<'a> {
         Ok(learned.backjump)
     }
 
-    /// Has the clause of the last step watch two of its literals, if it has at least two.
+    /// Makes the clause of the last step watch two of its literals, if it has at least two.
     fn watch_last(&mut self, alloc: Global) -> Result<(), AllocError>
         ensures { self.new ≡ self.old }
     {

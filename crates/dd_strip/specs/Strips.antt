@@ -1,6 +1,6 @@
--- Strips, which strips and weights a question about a rule may name, and which strips are small enough for a rule. Each position of Z^d has one or
--- more nodes. A cell is a position together with one of its nodes. A strip has periods along y and z, and no end along x. A slice consists of the
--- strip's cells with one value of x.
+-- What a strip is, which strips and weights a question about a rule may name, and which strips are small enough for a rule. Each position of Z^d has
+-- one or more nodes. A cell is a position together with one of its nodes. A strip has periods along y and z, and no end along x. A slice consists of
+-- the strip's cells with one value of x.
 use Rattle.std.specs.Prelude.{◌≡◌, ◌⊎◌, ℕ, ◌*◌, ◌<◌, ◌≤◌, List, length, slice_index}
 use Rattle.std.specs.List.{All}
 use Rattle.dd_values.specs.Bounds.{most_weight}
@@ -57,8 +57,8 @@ pub record HasWeights (r : LocalRule) (weights : List ℕ) : Type 0 where
 abbrev pub strip_for : LocalRule → List ℕ → Strip
 strip_for r periods = strip_of (slice_index periods 0) (slice_index periods 1) r.nodes
 
--- The rule's transfer graph over the strip (see dd_transfer) has too many states or too many windows. A state gives each cell of a number of
--- consecutive slices a symbol of the alphabet, whether or not the cell's node allows it. A window is like a state, but has one more slice.
+-- The rule's transfer graph over the strip (see dd_transfer) has too many states or too many windows. A state fills consecutive slices: it gives each
+-- of their cells a symbol of the alphabet, whether or not the cell's node allows it. A window is like a state, but has one more slice.
 abbrev pub IsTooLarge : LocalRule → Strip → Type 0
 IsTooLarge r s = (most_states < states r (positions s)) ⊎ (most_windows < window_count r (positions s))
 

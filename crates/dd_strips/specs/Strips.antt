@@ -20,7 +20,7 @@ pub record IsStripFilling (r : LocalRule) (s : Strip) (x : ℤ) (k : ℕ) (look 
   pub repeats : RepeatsAcross s look
   pub allowed : AreAllowed r look
 
--- an admissible filling: the rule is true at each cell for which the filling has a symbol, both for the cell itself and for each cell read there
+-- an admissible filling: the rule is true at each cell such that this cell and all cells read there have symbols
 pub record IsAdmissibleStrip (r : LocalRule) (s : Strip) (x : ℤ) (k : ℕ) (look : Look) : Type 0 where
   pub filling : IsStripFilling r s x k look
   pub admissible : Admissible r look

@@ -17,8 +17,8 @@ use dd_transfer::slices_are_walks;
 ///   of all configurations that live on the strip. A density is a weight per position.
 /// - Let `m / l` be the mean in lowest terms, and let the spread be the difference between the greatest and the least
 ///   potential. In an admissible filling with `j` slices more than a state has, the last `j` slices weigh at least
-///   `(m * j - spread) / l`. A filling is admissible if the rule is true at each cell for which it has a symbol, both for the
-///   cell itself and for each cell that the rule reads there.
+///   `(m * j - spread) / l`. A filling is admissible if the rule is true at each cell such that this cell and all cells that
+///   the rule reads there have symbols.
 pub fn strip_least()
     ensures { (r : LocalRule) (periods ws : List ℕ) (p q : ℕ) (walk : List ℕ) (ps : List ℤ) → IsRule r → IsStrip r periods →
         (c : IsDensityCertificate r (strip_for r periods) ws p q walk ps) → StripLeast r (strip_for r periods) ws p q c.l c.m (spread_of ps) }

@@ -1,7 +1,7 @@
-//! Topologies of the lattice Z^d for d = 1, 2, 3, the alphabets of nodes, and lists of names. Each position, a point of Z^d,
-//! has one or more nodes, numbered from 0. A cell is a position together with one of its nodes, and is called a cell of that
-//! node. A cell is in range if each coordinate of its position is at most 2^20 in absolute value. Cell order is by z, then y,
-//! then x, then the node.
+//! Topologies of the lattice Z^d, where d is 1, 2 or 3. Also the alphabets of nodes, and lists of names. Each position, a point
+//! of Z^d, has one or more nodes, numbered from 0. A cell is a position together with one of its nodes, and is called a cell of
+//! that node. A cell is in range if each coordinate of its position is at most 2^20 in absolute value. Cell order is by z, then
+//! y, then x, then the node.
 //!
 //! A topology has labelled edges between cells. An edge leads from each cell of its first node to a cell of its second
 //! node, which may be the same node. An edge leaves its first node. At most one edge with a given label leaves a node, and

@@ -11,7 +11,7 @@ pub struct Sets {
     nodes: u32,
     /// How many symbols the whole alphabet has.
     symbols: u32,
-    /// Whether each node allows each symbol: a row of `symbols` answers for each node, one row after another.
+    /// For each node, a row of `symbols` entries, one row after another. Each entry says whether the node allows the symbol.
     allowed: Vec<bool>,
 }
 
@@ -58,8 +58,8 @@ impl Sets {
         })
     }
 
-    /// Makes the node allow exactly these symbols. The node and the symbols must exist, and there must be at least one
-    /// symbol.
+    /// Makes the node allow exactly these symbols. The node and the symbols must exist, and the list of symbols must not be
+    /// empty.
     pub fn restrict(&mut self, node: u32, symbols: &[u32])
         requires node { node < length self.old.allowed }
         requires symbols { All (λ s. s < self.old.symbols) symbols.now }

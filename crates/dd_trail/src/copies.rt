@@ -216,8 +216,9 @@ fn forced(trail: &Trail, number: u64, code: Code) -> Scan
     Scan::Nothing
 }
 
-/// Looks at the clause at a stop. Finds nothing if the stop is not at a known clause, if one of the clause's first two literals
-/// is true, or if neither of them has a value. Otherwise the clause is falsified or forces a literal.
+/// Looks at the clause of a stop. Finds nothing if the places from `first` to `end` are not those of one known clause, if one
+/// of the clause's first two literals is true, or if neither of them has a value. Otherwise the clause is falsified or forces a
+/// literal.
 pub(crate) fn look_at_stop(
     numbers: &[u32],
     codes: &[Code],

@@ -28,6 +28,9 @@ const BROAD_PART: u64 = 64;
 /// The same for the focused style: the increment is divided by this number, and the quotient is added to it.
 const FOCUSED_PART: u64 = 20;
 
+/// The same for the selective style.
+const SELECTIVE_PART: u64 = 12;
+
 /// How much weight the latest conflicts have in the order.
 #[derive(Clone, Copy, Debug)]
 pub enum Style {
@@ -44,6 +47,12 @@ pub enum Style {
     /// there, and the search stays with the cells that it is working on. This style is also better for the question whether two
     /// automata differ.
     Focused,
+    /// As in the focused style, a variable becomes more active only once in a conflict, with this exception: it becomes more
+    /// active a second time if its value was forced, at or after the last decision, by a learned clause that has fewer levels
+    /// than the new one (Audemard and Simon 2009). The levels of a clause are the different decision levels above 0 of its
+    /// literals. Each conflict adds still more than in the focused style. This style is better after many variables were
+    /// eliminated by resolution.
+    Selective,
 }
 
 /// What the order records about a variable.
@@ -311,6 +320,7 @@ impl Order {
         let growth = match self.style {
             Style::Broad => self.increment / BROAD_PART,
             Style::Focused => self.increment / FOCUSED_PART,
+            Style::Selective => self.increment / SELECTIVE_PART,
         };
         self.increment = self.increment.saturating_add(growth);
     }

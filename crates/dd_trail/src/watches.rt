@@ -9,8 +9,9 @@
 //! An entry of the trail makes the negation of its literal false. To read the entry is to pass the watchers of this negation,
 //! one after the other. To pass a watcher is to look for a literal that its clause can watch instead of the false one. This is
 //! not needed if the watcher's other literal is true, or if the other literal that the clause watches is true. A passed watcher
-//! stays in the list, or moves to the list of the literal that its clause now watches. No invariant says that the places that
-//! watchers name are within the copy, or are those of one clause. So the code tests both. The tests never fail.
+//! stays in the list, or moves to the list of the literal that its clause now watches. No invariant says that the place that a
+//! watcher names is within the copy, or that the places looked at from there are those of one clause. So the code tests both.
+//! The tests never fail.
 ghost use Rattle.std.specs.Prelude.{◌≡◌, ◌<◌, ◌≤◌, ◌^◌, List, Option, length, IfOk, IfSome, MatchOption, ⊤};
 ghost use Rattle.dd_clause.specs.declared.clause.Literal.{Literal};
 ghost use Rattle.dd_trail.specs.Trails.{falses, IsFull};
@@ -340,8 +341,8 @@ impl Watches {
         ensures copied { AreCopied database.now self.new }
         ensures conflict { IfOk result (λ conflict. MatchOption conflict ⊤ (IsConflict database.now trail.new.entries)) }
     {
-        // The loop ends long before its bound. A `loop` would need a proof that it ends, and nothing is proved about the
-        // places.
+        // The loop ends long before its bound. A `loop` would need a proof that it ends, and nothing is proved about `read` and
+        // `at`.
         for _ in 0..u64::MAX {
             let read = self.read;
             let entries = trail.entries();

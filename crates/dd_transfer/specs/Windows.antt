@@ -18,7 +18,7 @@ digits base (suc count) number = digits base count (number / base) ++ number % b
 abbrev pub slice_index_of : Strip → Cell → ℕ
 slice_index_of s c = (residue c.position.z s.z * s.y + residue c.position.y s.y) * s.nodes + c.node
 
--- the place of a cell among the symbols of a window, which are listed slice by slice, if the cell's x is at least 0
+-- the place of a cell, with x at least 0, among the symbols of a window; these are listed slice by slice
 abbrev pub window_index : Strip → Cell → ℕ
 window_index s c = unsigned_abs c.position.x * cells s + slice_index_of s c
 

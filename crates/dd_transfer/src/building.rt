@@ -52,28 +52,29 @@ pub fn graph(
     Ok(graph_of(alloc, rule, strip, weights, states, count)?)
 }
 
-/// The transfer graph of the rule over the strip. `most` is the number of its states, and `count` the number of its windows.
+/// The transfer graph of the rule over the strip. `state_count` is the number of its states, and `count` the number of its
+/// windows.
 fn graph_of(
     alloc: Global,
     rule: &Rule,
     strip: Strip,
     weights: &[u32],
-    most: u32,
+    state_count: u32,
     count: u32,
 ) -> Result<Graph, AllocError>
     requires kept { IsRule rule.now }
     requires strip { IsFor rule.now strip }
     requires weights { HasWeights rule.now weights.now }
-    requires states { most ≡ states rule.now (positions strip) }
+    requires states { state_count ≡ states rule.now (positions strip) }
     requires count { count ≡ window_count rule.now (positions strip) }
-    requires few { most ≤ most_states }
+    requires few { state_count ≤ most_states }
     requires small { count ≤ most_windows }
     ensures { IfOk result (IsGraphOf rule.now strip weights.now) }
 {
-    let slices = count / most;
+    let slices = count / state_count;
     let windows = kept_windows(alloc, rule, strip, count)?;
     let weights = slice_weights(alloc, rule, strip, weights, slices)?;
-    Ok(Graph::new(most, slices, windows, weights))
+    Ok(Graph::new(state_count, slices, windows, weights))
 }
 
 /// For each window, in the order of the windows' numbers, whether the rule keeps it. The windows that it keeps are the

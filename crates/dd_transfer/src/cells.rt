@@ -55,8 +55,8 @@ pub(crate) fn cell_at(strip: &Strip, x: i32, number: u32) -> Cell
     requires number { number < cells strip.now }
     ensures { result ≡ cell_at strip.now x number }
 {
-    let place = number / strip.nodes;
-    let position = position_of(x, place % strip.y, place / strip.y);
+    let index = number / strip.nodes;
+    let position = position_of(x, index % strip.y, index / strip.y);
     Cell {
         position,
         node: number % strip.nodes,

@@ -177,7 +177,7 @@ fn times_in(
     times_of_first(rt, alloc, &script)
 }
 
-/// Formulas, each with the number of fillings for which it is true at each node.
+/// Formulas, each with its numbers: for each node, the number of fillings for which it is true there.
 type Times = &'static [(&'static str, &'static [usize])];
 
 /// For each formula, asserts these numbers for the script whose text is `beginning`, followed by the formula.

@@ -107,8 +107,8 @@ fn assert_rows<C: Configuration>(
 ) -> Result<(), Fail>
     requires { IsWhole script.now (C.nodes configuration.now) (C.symbol_of configuration.now) }
 {
-    for (place, query, wanted) in ROWS {
-        let Some(answer) = answers.get(*place) else {
+    for (index, query, wanted) in ROWS {
+        let Some(answer) = answers.get(*index) else {
             return Err("an answer".into());
         };
         assert_places(rt, alloc, script, *query, answer, configuration, *wanted)?;
@@ -155,7 +155,7 @@ fn read_script(alloc: Global) -> Result<Script, Fail> {
 }
 
 #[test]
-fn a_yes_excludes_goals_from_functions(rt: HostRuntime) -> Result<(), Fail> {
+fn a_yes_excludes_goals_from_configurations(rt: HostRuntime) -> Result<(), Fail> {
     let alloc = rt.alloc();
     let script = read_script(alloc)?;
     assert_script(&rt, alloc, &script)

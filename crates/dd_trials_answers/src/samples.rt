@@ -1,4 +1,4 @@
-// Sample scripts: the lines that answer the smallest one, worked out by hand, and which words ask for a sample.
+// Sample scripts: the lines that answer each of them, worked out by hand for the smallest, and which words ask for a sample.
 use crate::outputs::assert_first_lines;
 use dd_engines::Roster;
 use dd_outside::{MemorySink, MemorySource, ReadAllFault, read_all};
@@ -92,7 +92,7 @@ fn samples_are_asked_for_by_their_numbers(rt: HostRuntime) -> Result<(), Fail> {
 }
 
 #[test]
-fn no_words_ask_for_nothing(rt: HostRuntime) -> Result<(), Fail> {
+fn an_empty_list_of_words_asks_for_nothing(rt: HostRuntime) -> Result<(), Fail> {
     let alloc = rt.alloc();
     let mut source = MemorySource::new(Vec::new(alloc), 4, Vec::new(alloc));
     let mut sink = MemorySink::new(alloc, 200, 16, Vec::new(alloc))?;

@@ -84,8 +84,8 @@ fn density(alloc: Global) -> Result<Answer, AllocError> {
     })
 }
 
-/// A bound by discharging, with the numerators of its amounts and duals over a common denominator. The amounts are what
-/// positions give, and the duals show that no amounts give a greater bound.
+/// A bound by discharging, with the numerators of its amounts and duals over a common denominator. The amounts say how much
+/// weight positions give to others, and the duals show that no amounts lead to a greater bound.
 fn bound(alloc: Global) -> Result<Answer, AllocError> {
     Ok(Answer::Bound {
         numerator: 1,

@@ -112,7 +112,7 @@ fn eight_gates(alloc: Global) -> Result<Circuit, AllocError>
 }
 
 #[test]
-fn gates_of_no_one_and_three_members(rt: HostRuntime) -> Result<(), Fail> {
+fn gates_of_zero_one_and_three_members(rt: HostRuntime) -> Result<(), Fail> {
     let alloc = rt.alloc();
     let circuit = eight_gates(alloc)?;
     for (inputs, gates) in VALUES_OF_GATES {

@@ -121,7 +121,7 @@ const CLAUSES_OF_GATES: &[&[i64]] = &[
 ];
 
 #[test]
-fn gates_of_no_one_and_three_members(rt: HostRuntime) -> Result<(), Fail> {
+fn gates_of_zero_one_and_three_members(rt: HostRuntime) -> Result<(), Fail> {
     let alloc = rt.alloc();
     let mut circuit = Circuit::new(alloc, 3);
     push_conjunctions(&mut circuit)?;

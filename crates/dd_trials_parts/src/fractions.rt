@@ -122,8 +122,8 @@ const DIFFERENCES: &[(Pair, Pair, Pair, Option<Pair>)] = &[
     // Numbers of nearly 128 bits.
     ((-P126, 1), (P63, 1), (P63, 2), Some((-P126 - P126 / 2, 1))),
     ((MAX, 1), (P63, 1), (P63, 1), Some((MAX - P126, 1))),
-    // 2^127 - 1 less 2^127 fits, but the product 2^127 does not. In the next row the product fits, but the difference, -2^127,
-    // is greater than 2^127 - 1 in absolute value.
+    // The difference of 2^127 - 1 and 2^127 fits, but the product 2^127 does not. In the next row the product fits, but the
+    // difference, -2^127, is greater than 2^127 - 1 in absolute value.
     ((MAX, 1), (P64, 1), (P63, 1), None),
     ((-P126, 1), (P63, 1), (P63, 1), None),
 ];

@@ -79,9 +79,10 @@ fn described(alloc: Global, answer: &Result<Solved, SimplexFault>) -> Result<Str
     }
 }
 
-/// A name, the number of columns, the cap on column 0, the rows, the limit on pivots, and the answer. The first dual is that
-/// of the cap. A name that begins with `first past 2^127` says which number is the first that doesn't fit. If it is one of the
-/// value or of the costs, the same number, up to its sign, comes first in the line of column 0 (see below).
+/// A name, the number of columns, the cap on column 0, the rows, the limit on pivots, and the answer. The first dual is that of
+/// the cap. A name that begins with `first past 2^127` says which number doesn't fit. If this number arises in the value or in
+/// the costs, the line of column 0 has the same number, up to its sign, and is computed earlier (see below). In all other cases
+/// it is the first that doesn't fit.
 const CASES: &[(&str, u32, i64, &str, u32, &str)] = &[
     (
         "one column under its cap",
@@ -126,7 +127,7 @@ const CASES: &[(&str, u32, i64, &str, u32, &str)] = &[
         "value 0 columns 0 0 0 duals 0 0 0 0 1",
     ),
     (
-        "three equal ratios",
+        "four equal ratios",
         2,
         2,
         "1 1 2; 1 -1 2; 1 0 2",
@@ -419,7 +420,7 @@ const CASES: &[(&str, u32, i64, &str, u32, &str)] = &[
         "value 1 columns 1 9223372036854775807/9223372036854775808 duals 1 0",
     ),
     (
-        "first past 2^127: a product of costs as the first row leaves, 9 * 2^124",
+        "first past 2^127: a product of costs as the cap leaves, 9 * 2^124",
         3,
         1,
         "1 -9/4611686018427387904 4611686018427387904 0",
@@ -427,7 +428,7 @@ const CASES: &[(&str, u32, i64, &str, u32, &str)] = &[
         "Overflow",
     ),
     (
-        "a product of costs of 7 * 2^124 as the first row leaves",
+        "a product of costs of 7 * 2^124 as the cap leaves",
         3,
         1,
         "1 -7/4611686018427387904 4611686018427387904 0",

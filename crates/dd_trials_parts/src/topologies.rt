@@ -85,7 +85,7 @@ const COUNTS: &[(Kind, u32, usize)] = &[
 ];
 
 #[test]
-fn balls_have_the_numbers_of_cells_of_their_lattices(rt: HostRuntime) -> Result<(), Fail> {
+fn balls_have_the_known_numbers_of_cells(rt: HostRuntime) -> Result<(), Fail> {
     for (kind, radius, count) in COUNTS {
         assert_eq!(rt; ball_of(rt.alloc(), *kind, 0, *radius)?.len(), *count);
     }

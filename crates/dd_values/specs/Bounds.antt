@@ -25,11 +25,11 @@ most_weight = 1000
 abbrev pub widest_radius : ℕ
 widest_radius = 3
 
--- the highest limit that a script may set on the radii that the search tries
+-- the highest limit that a script may set on the radii of the boxes that the search tries
 abbrev pub greatest_radius : ℕ
 greatest_radius = 8
 
--- the highest limit that a script may set on the periods that the search tries
+-- the highest limit that a script may set on the periods of the tori that the search tries
 abbrev pub greatest_period : ℕ
 greatest_period = 8
 

@@ -49,7 +49,7 @@ pub data StripClaim (x : LocalRule) (strip ws : List ℕ) : Answer → Type 0 wh
 -- vector depends on the symbols of the box of radius `radius` round it. A certificate has amounts that meet the rows of a linear program: in each
 -- admissible filling of a finite region, the origin then holds at least the bound. It also has duals (factors of the rows) which show that no amounts
 -- that meet the rows give a greater bound. The region consists of the boxes of this radius round the origin and round the positions that give to it,
--- enlarged by `margin` in every direction. Or the answer is UNKNOWN, with one of three reasons why no bound was found.
+-- enlarged by `margin` in every direction. An answer UNKNOWN is a certificate, too, if it has one of the three reasons why no bound was found.
 pub data IsDischargeCertificate (x : LocalRule) (radius margin : ℕ) (vs : List Place) (ws : List ℕ) : Answer → Type 0 where
   best : {p q n : ℕ} {amounts duals : List ℕ} → IsBoundCertificate x ws radius margin vs (bound_claimed p q n amounts duals) →
       IsDischargeCertificate x radius margin vs ws (answer.Bound p q n amounts duals)

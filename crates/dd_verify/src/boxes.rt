@@ -1,6 +1,6 @@
-//! The check of answers to box questions and to equality questions. An equality question asks whether the same configurations
-//! obey two rules, `left` and `right`. It is two box questions: whether no configuration that obeys `left` breaks `right` at
-//! any position, and whether none that obeys `right` breaks `left`.
+//! The check of answers to box questions and to equality questions. An equality question is two box questions about two rules,
+//! `left` and `right`: whether no configuration that obeys `left` breaks `right` at any position, and whether none that obeys
+//! `right` breaks `left`. If both rules allow the same symbols at each node, it asks whether the same configurations obey both.
 ghost use Rattle.std.specs.Prelude.{◌≡◌, ◌↔◌, IsTrue, IfOk};
 ghost use Rattle.dd_boxes.specs.Goals.{breaks};
 ghost use Rattle.dd_boxes.specs.Views.{goal_of};

@@ -1,12 +1,12 @@
 //! The check of answers about the best bound of a discharge. In a discharge, each position first holds the weight of its
 //! symbols. Then, along each vector of a list, it gives an amount to the position at the vector's end. The amount depends on
-//! the vector and on the symbols of the box of a given radius around the position that gives. A bound is a number such that,
-//! in each admissible filling of a finite region, the origin holds at least this number in the end. (Then each position of a
-//! configuration of allowed symbols that obeys the rule holds at least this number in the end, too. No bound may be greater
-//! than the number of nodes times the greatest weight.) The region consists of the boxes of this radius around the origin and
+//! the vector and on the symbols of the box of a given radius around the position that gives. A bound is a number that meets
+//! two conditions. It is at most the number of nodes times the greatest weight. In each admissible filling of a finite region,
+//! the origin holds at least this number in the end. (Then each position of a configuration of allowed symbols that obeys the
+//! rule holds at least this number in the end, too.) The region consists of the boxes of this radius around the origin and
 //! around the positions that give to it. The margin says by how much the region is enlarged in every direction. A bound is the
-//! best if no other amounts give a greater bound. A certificate has the bound, the amounts, and duals: factors of the rows of
-//! a linear program, which show that the bound is the best. The program is made from the fillings of the region.
+//! best if no other amounts give a greater bound. A certificate has the bound, the amounts, and duals: factors of the rows of a
+//! linear program, which show that the bound is the best. The program is made from the fillings of the region.
 ghost use Rattle.std.specs.Prelude.{◌≡◌, ◌↔◌, ◌⊎◌, IsTrue, IfOk};
 ghost use Rattle.dd_certificate.specs.declared.answer.Answer.TheVariants as answer;
 ghost use Rattle.dd_certificate.specs.Bounds.{IsWritable};

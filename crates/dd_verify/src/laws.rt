@@ -19,7 +19,7 @@ use dd_question::{CheckedQuestion, Question};
 use dd_sides::bound_holds;
 use dd_strips::{strip_empty, strip_least};
 
-/// Does nothing. Its contract is about a goal that fits the premise. If the goal has a rule, this rule must be well formed.
+/// Does nothing. Its contract is about every premise that the goal fits. If the goal has a rule, this rule must be well formed.
 /// The contract says that the facts about the goal hold (see `HasGoalFacts` in `dd_problem`). The facts are that this rule or
 /// the automata of the goal fit the premise, that the automata read only cells of the lattice, and that the gates made for
 /// their values (see `dd_compile`) compute these values.

@@ -43,7 +43,7 @@ box_positions (suc (suc zero)) n low high = let side = side_is n in rw (second_p
 box_positions (suc (suc (suc zero))) n low high = let side = side_is n in rw (third_power (2 * n + 1), side) (omega arith)
 box_positions (suc (suc (suc (suc d)))) n low high = absurd (omega arith)
 
--- a larger box has at least as many positions, and the largest region has at least as many as each box of radius at most m
+-- a larger box has at least as many positions, and the largest region for the radius m has at least as many as each box whose radius is at most m
 squares_up : (a b : ℕ) → a ≤ b → a * a ≤ b * b
 squares_up a b le = mul-le a a b b le le
 

@@ -52,8 +52,8 @@ beq-not true false = refl
 beq-not false true = refl
 beq-not false false = refl
 
--- Here a signed member is the literal `signed sign l` of a member l. The clauses before the last one say that, if the gate's literal is true, so are
--- all signed members.
+-- Here a signed member is the literal `signed sign l` of a member l. The clauses of `and_or_clauses` before the last one say that, if the gate's
+-- literal is true, so are all signed members.
 pairs_law : (set : ℕ → Bool) (gate : Literal) (sign : Bool) (members : List Signal) →
     is_satisfied set (map (λ l. negation gate ∷ signed sign l ∷ []) members) ≡ (not (is_true_under set gate) || list_all (λ l. is_true_under set (signed sign l)) members)
 pairs_law set gate sign [] = go (is_true_under set gate) where

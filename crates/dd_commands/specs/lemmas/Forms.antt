@@ -58,9 +58,9 @@ then_reads {X} {Y} {f} {g} is ended are = record {
   last = are.last;
 }
 
--- Suppose that `make` makes new items from the items of a form, and that for each new item y, `parts y` has this form and `make` makes y from it. If
--- the form writes each item x as the tokens `text (make x)`, and any tokens may follow an item of the form, then `Reads` carries over to the new
--- items, each y written as `text y`.
+-- Suppose that `make` makes new items from the items of a form. Each new item y is made from `parts y`, which has this form. The form writes each
+-- item x as the tokens `text (make x)`, and any tokens may follow an item. Then `Reads` carries over to the form that writes each new item y as `text
+-- y`.
 pub text_reads : {X Y : Type 0} {f : Form X} (make : X → Y) (parts : Y → X) (text : Y → List Lexeme) → ((x : X) (rest : List Lexeme) → f.onto x rest ≡ text (make x) ++ rest) → ((y : Y) → make (parts y) ≡ y)
     → ((y : Y) → f.is (parts y)) → ((rest : List Lexeme) → f.ends rest) → Reads f → Reads (by_text text (made make f.item))
 text_reads {X} {Y} {f} make parts text spelt same right free is = record {

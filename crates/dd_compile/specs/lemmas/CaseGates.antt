@@ -83,17 +83,17 @@ pub choosing_few : (rules : List Signal) (i : ℕ) (start now : Network) (chosen
     size start + length (choices [] rules) ≤ most_variables → size now < most_variables
 choosing_few rules i start now chosen before p within few = omega (arith, p.count, choices_length [] rules, few)
 
-pub opposites_in_range : (n m : ℕ) (xs : List Signal) → n ≤ m → All (IsSignal n) xs → All (IsSignal m) xs
-opposites_in_range n m xs more ok = All-weaker (IsSignal n) (IsSignal m) (λ x h. (h.0, (let g = h.1 in omega (arith, g, more)))) xs ok
+pub still_in_range : (n m : ℕ) (xs : List Signal) → n ≤ m → All (IsSignal n) xs → All (IsSignal m) xs
+still_in_range n m xs more ok = All-weaker (IsSignal n) (IsSignal m) (λ x h. (h.0, (let g = h.1 in omega (arith, g, more)))) xs ok
 
 pub with_first : (n : ℕ) (l : Signal) (xs : List Signal) → IsSignal n l → All (IsSignal n) xs → All (IsSignal n) (l ∷ xs)
 with_first n l xs here rest zero d h = here
 with_first n l xs here rest (suc k) d h = rest k d (omega arith)
 
 -- one step through the choices: if choice i gives the symbol, its signal is added
-pub giving_step : (s : ℕ) (xs : List ℕ) (fs members more : List Signal) (i : ℕ) (x : ℕ) (f : Signal) (b : Bool) → giving s xs fs ≡ members ++ giving s (drop i xs) (drop i fs) → i < length xs → i < length fs →
+pub members_step : (s : ℕ) (xs : List ℕ) (fs members more : List Signal) (i : ℕ) (x : ℕ) (f : Signal) (b : Bool) → giving s xs fs ≡ members ++ giving s (drop i xs) (drop i fs) → i < length xs → i < length fs →
     x ≡ get_or xs i x → f ≡ get_or fs i f → (x == s) ≡ b → more ≡ (if b then members ++ f ∷ [] else members) → giving s xs fs ≡ more ++ giving s (drop (i + 1) xs) (drop (i + 1) fs)
-giving_step s xs fs members more i x f b so_far below below' is is' test grown =
+members_step s xs fs members more i x f b so_far below below' is is' test grown =
     let rest = giving s (drop (i + 1) xs) (drop (i + 1) fs) in
     so_far
     ∙ (ap (λ ys. members ++ giving s ys (drop i fs)) (next_is xs i x below is)
@@ -122,9 +122,9 @@ pub record Giving (k : ℕ) (xs : List ℕ) (fs : List Signal) (i : ℕ) (start 
   pub signals_left : fresh (size start) k ≡ signals ++ fresh (size now) (k - i)
   pub count : size now ≡ size start + i
 
-pub given_step : (k : ℕ) (xs : List ℕ) (fs : List Signal) (i : ℕ) (start now new : Network) (signals members more : List Signal) (s : Signal) → Giving k xs fs i start now signals → i < k →
+pub giving_step : (k : ℕ) (xs : List ℕ) (fs : List Signal) (i : ℕ) (start now new : Network) (signals members more : List Signal) (s : Signal) → Giving k xs fs i start now signals → i < k →
     members ≡ giving i xs fs → new.inputs ≡ now.inputs → new.gates ≡ now.gates ++ Or members ∷ [] → s ≡ signal_of (size new) → more ≡ signals ++ s ∷ [] → Giving k xs fs (i + 1) start new more
-given_step k xs fs i start now new signals members more s p below are inputs gates signal pushed =
+giving_step k xs fs i start now new signals members more s p below are inputs gates signal pushed =
     let one = one_gate now new (Or members) inputs gates in
     let left : k - i ≡ suc (k - (i + 1)) = omega arith in
     let rest = map (λ s. Or (giving s xs fs)) (range_with_len (i + 1) (k - (i + 1))) in

@@ -61,7 +61,7 @@ none_more set before l =
     and_true true = refl
     and_true false = refl
 
--- Some choice that gives the symbol s is true exactly when no earlier signal is true and s is picked.
+-- Some choice that gives the symbol s is true exactly when no signal in `before` is true and s is picked.
 pub chosen_says : (set : ℕ → Bool) (n : ℕ) (before ls : List Signal) (xs : List ℕ) (s : ℕ) → length xs ≡ length ls + 1 → agrees set n (choices before ls) ≡ true →
     list_any (signal_value set) (giving s xs (fresh n (length (choices before ls)))) ≡ (none_of set before && (pick xs (map (signal_value set) ls) == s))
 chosen_says set n before [] [] s long ok = absurd (omega arith)

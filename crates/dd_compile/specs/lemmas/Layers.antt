@@ -79,7 +79,8 @@ all_wired-more n m w (e ∷ es) more h =
     let both = and_parts (are_wired n w e) (all_wired n w es) h in
     rw (wired_more n m w e more both.0) (all_wired-more n m w es more both.1)
 
--- what is required of the parts of an expansion
+-- the parts together have fewer instances than the expansion, and at most as many gates; if the expansion's leaves have their wires, so do the parts'
+-- leaves
 pub record AsksOf (n : ℕ) (w : Wires) (e : Expanded) (parts : List Expanded) : Type 0 where
   pub smaller : 2 * all_instances parts + 1 < 2 * instances e
   pub few : all_counts parts ≤ gate_count e
@@ -97,7 +98,7 @@ or_asks n w e fs parts is same =
     let c = ap gate_count is ∙ count_or fs in
     rw same (record { smaller = omega (arith, i); few = omega (arith, c); wired = λ h. sym (ap (are_wired n w) is ∙ wired_or n w fs) ∙ h })
 
--- what is required of the second side of an equivalence when the gates of the first side are there
+-- the same for the second side of an equivalence; there are n variables before the gates of the first side, and m after them
 pub record AsksOfSecond (n m : ℕ) (w : Wires) (e side : Expanded) : Type 0 where
   pub smaller : 2 * instances side < 2 * instances e
   pub few : m + gate_count side ≤ n + gate_count e

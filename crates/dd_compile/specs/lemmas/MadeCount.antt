@@ -1,4 +1,4 @@
--- How many gates an expansion has. These gates depend only on the wires of the leaves.
+-- How many gates an expansion has. Of the wires, only those of the leaves matter for these gates.
 use Rattle.std.proofs.Common.{◌≡◌, ℕ, ◌+◌, Bool, true, List, [], ◌∷◌, ◌++◌, map, length, refl, ap, ◌∙◌, arith, length-append}
 use Rattle.std.proofs.lemmas.Bool.{and_parts}
 use Rattle.std.specs.List.{list_all}

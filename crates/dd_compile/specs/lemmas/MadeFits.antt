@@ -1,4 +1,5 @@
--- If the wires of an expansion's leaves have earlier variables, its gates are over earlier variables, and its signal is a signal of the circuit.
+-- If the wires of an expansion's leaves have variables before its gates, each gate is over variables before its own, and the expansion's signal is a
+-- signal of the circuit.
 use Rattle.std.proofs.Common.{◌≡◌, ℕ, ◌+◌, ◌≤◌, Bool, true, false, List, [], ◌∷◌, ◌++◌, map, length, arith, length-append}
 use Rattle.std.proofs.lemmas.{Bool.and_parts, List.Elements.All-cons, List.Elements.All-weaker}
 use Rattle.std.specs.List.{list_all, All}

@@ -13,7 +13,7 @@ pub record IsFirstOf (T : Periods → Type 0) (ps : List Periods) (p : Periods) 
   pub shows : T p
   pub before : NoneBefore T ps place
 
--- the search may ask about each radius from least to most
+-- the search may ask about each radius from `least` to `most`
 abbrev pub AsksRadii : (ℕ → Type 0) → ℕ → ℕ → Type 0
 AsksRadii A least most = (n : ℕ) → least ≤ n → n ≤ most → A n
 

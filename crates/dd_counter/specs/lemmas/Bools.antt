@@ -22,7 +22,7 @@ one_of_range f c (suc k) a low high = go (c == a) refl (λ above. one_of_range f
 lt_less : (t w total : ℕ) → w ≤ t → nat_lt (t - w) total ≡ nat_lt t (total + w)
 lt_less t w total h = grind (arith, nat_tests)
 
--- t is below total + w exactly when t is below w or b is true; if w is at most t, b says whether t - w is below total
+-- suppose that b says whether t - w is below total, if w is at most t; then t is below total + w exactly when t is below w or b is true
 pub lt_sum : (t w total : ℕ) (b : Bool) → (w ≤ t → b ≡ nat_lt (t - w) total) → (nat_lt t w || b) ≡ nat_lt t (total + w)
 lt_sum t w total b rest = go (nat_lt t w) refl where
   go : (c : Bool) → nat_lt t w ≡ c → (c || b) ≡ nat_lt t (total + w)

@@ -6,7 +6,7 @@ use Rattle.std.specs.{Prelude.◌-◌, Prelude.nat_lt, Prelude.Option, Prelude.s
 use Rattle.dd_circuit.specs.declared.gates.{Signal.Signal, Gate.TheVariants.Or}
 use Rattle.dd_circuit.specs.Circuits.{IsSignal, AreGates, signal_of}
 use Rattle.dd_circuit.specs.lemmas.GateLists.{AreGates-append, AreGates-snoc, two_in_range}
-use Rattle.dd_compile.specs.{Compiling.AllMade, lemmas.CaseGates.opposites_in_range}
+use Rattle.dd_compile.specs.{Compiling.AllMade, lemmas.CaseGates.still_in_range}
 use Rattle.dd_problem.specs.Clauses.{input}
 use Rattle.dd_counter.specs.Counter.{Making, making, joined, member_by, member, of_symbol, members, count, row, rows}
 
@@ -21,8 +21,8 @@ append_fits n a b first rest =
     record {
       gates = AreGates-append n a.gates b.gates first.gates rest.gates;
       signals = All-append (IsSignal (n + length (a.gates ++ b.gates))) a.signals b.signals
-          (opposites_in_range (n + length a.gates) (n + length (a.gates ++ b.gates)) a.signals (omega arith) first.signals)
-          (opposites_in_range (n + length a.gates + length b.gates) (n + length (a.gates ++ b.gates)) b.signals (omega arith) rest.signals);
+          (still_in_range (n + length a.gates) (n + length (a.gates ++ b.gates)) a.signals (omega arith) first.signals)
+          (still_in_range (n + length a.gates + length b.gates) (n + length (a.gates ++ b.gates)) b.signals (omega arith) rest.signals);
     }
 
 pub joined_fits : (make : ℕ → Making) (low c a n : ℕ) → ((s m : ℕ) → s < a + c → low ≤ m → Fits m (make s m)) → low ≤ n → Fits n (joined (map make (range_with_len a c)) n)
@@ -35,7 +35,7 @@ one_in_range : (n : ℕ) (a : Signal) → IsSignal n a → All (IsSignal n) (a �
 one_in_range n a p = All-cons (IsSignal n) a [] p (All-nil (IsSignal n))
 
 member_by_fits : (from : Signal) (alone : Bool) (earlier : Option Signal) (n : ℕ) → IsSignal n from → ((r : Signal) → earlier ≡ Some r → IsSignal n r) → Fits n (member_by from alone earlier n)
-member_by_fits from true earlier n ok before = record { gates = tt; signals = opposites_in_range n (n + 0) (from ∷ []) (omega arith) (one_in_range n from ok) }
+member_by_fits from true earlier n ok before = record { gates = tt; signals = still_in_range n (n + 0) (from ∷ []) (omega arith) (one_in_range n from ok) }
 member_by_fits from false None n ok before = record { gates = tt; signals = All-nil (IsSignal (n + 0)) }
 member_by_fits from false (Some r) n ok before = record {
   gates = (two_in_range n from r ok (before r refl), tt);
@@ -55,7 +55,7 @@ count_fits ws k c before t n within few ok =
     let each = joined (members ws k t before) n in
     let fits =
     joined_fits (of_symbol ws k t before) n (length ws) 0 n
-    (λ s m l h. member_fits (signal_of (input (length ws) k s)) (slice_index ws s) t before m (input_fits (length ws) k s c m within (omega arith) (omega arith)) (opposites_in_range n m before h ok))
+    (λ s m l h. member_fits (signal_of (input (length ws) k s)) (slice_index ws s) t before m (input_fits (length ws) k s c m within (omega arith) (omega arith)) (still_in_range n m before h ok))
     (omega arith) in
     let e = length-append each.gates (Or each.signals ∷ []) in
     record {
@@ -65,10 +65,10 @@ count_fits ws k c before t n within few ok =
 
 pub row_fits : (ws : List ℕ) (below k c : ℕ) (before : List Signal) (n : ℕ) → k < c → c * length ws ≤ n → All (IsSignal n) before → Fits n (row ws below k before n)
 row_fits ws below k c before n within few ok =
-    joined_fits (count ws k before) n below 0 n (λ t m l h. count_fits ws k c before t m within (omega arith) (opposites_in_range n m before h ok)) (omega arith)
+    joined_fits (count ws k before) n below 0 n (λ t m l h. count_fits ws k c before t m within (omega arith) (still_in_range n m before h ok)) (omega arith)
 
 pub rows_fit : (ws : List ℕ) (below d k c : ℕ) (before : List Signal) (n : ℕ) → k + d ≤ c → c * length ws ≤ n → All (IsSignal n) before → Fits n (rows ws below d k before n)
-rows_fit ws below zero k c before n within few ok = record { gates = tt; signals = opposites_in_range n (n + 0) before (omega arith) ok }
+rows_fit ws below zero k c before n within few ok = record { gates = tt; signals = still_in_range n (n + 0) before (omega arith) ok }
 rows_fit ws below (suc d) k c before n within few ok =
     let first = row ws below k before n in
     let fits = row_fits ws below k c before n (omega arith) few ok in
@@ -77,5 +77,5 @@ rows_fit ws below (suc d) k c before n within few ok =
     let e = length-append first.gates rest.gates in
     record {
       gates = AreGates-append n first.gates rest.gates fits.gates more.gates;
-      signals = opposites_in_range (n + length first.gates + length rest.gates) (n + length (first.gates ++ rest.gates)) rest.signals (omega arith) more.signals;
+      signals = still_in_range (n + length first.gates + length rest.gates) (n + length (first.gates ++ rest.gates)) rest.signals (omega arith) more.signals;
     }

@@ -42,8 +42,9 @@ abbrev pub literals_of : List (Option (List Literal)) → List ℕ → List Lite
 literals_of known [] = []
 literals_of known (h ∷ hints) = unwrap_or (clause_of known h) [] ++ literals_of known hints
 
--- Whether a literal of a variable out of range is false. Such a variable has no mark, and it has no value until a hinted clause contains it. So the
--- first such clause forces the literal of this variable that it contains. `seen` holds the literals of the clauses hinted so far.
+-- Whether a literal of a variable out of range is false. Such a variable has no mark, and it has no value until a hinted clause contains it. Each
+-- clause hinted so far has forced a literal. So the first of them that contains the variable has forced its literal of this variable. `seen` holds
+-- the literals of the clauses hinted so far.
 abbrev pub is_false_unmarked : List Literal → Literal → Bool
 is_false_unmarked seen l = option_map_or (λ m. same_literal l (negation m)) (first_literal_of l.variable seen) false
 

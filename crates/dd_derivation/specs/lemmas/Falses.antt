@@ -60,7 +60,7 @@ marked_same marks step l x r v =
     let i : x.variable - 1 ≡ l.variable - 1 = omega arith in
     rw (i, get_or-set_same marks (l.variable - 1) (record { step = step; positive = l.positive }) (record { step = 0; positive = false }) lt, eq-eqb step step refl) refl
 
--- marking a literal in range whose variable has no value makes it false, and changes nothing for other literals in range
+-- let a literal in range, whose variable has no value, be marked; then it is false, and the other false literals in range stay the same
 set_more : (marks : List VariableMark) (step : ℕ) (falses : List Literal) (l x : Literal) → is_marked marks step x ≡ is_among falses x → IsLiteralInRange (length marks) x → IsLiteralInRange (length marks) l → is_among falses l ≡ false → is_among falses (negation l) ≡ false → is_marked (set marks (l.variable - 1) (record { step = step; positive = l.positive })) step x ≡ is_among (l ∷ falses) x
 set_more marks step falses l x m i r f g =
     elim (cases_eq x.variable l.variable) [
@@ -88,8 +88,8 @@ marked_more marks step falses l x m i f g = elim (cases_Bool (is_literal_in_rang
   | inr n ↦ rw (n, apart (length marks) x l i n) m
 ]
 
--- Let a literal whose variable has no value become false. If the hinted clauses tell which literals out of range are false, the marks and the hinted
--- clauses together still tell which literals are false.
+-- Let a literal whose variable has no value become false. If the hinted clauses then tell which literals out of range are false, the marks and the
+-- hinted clauses together still tell which literals are false.
 FalsesAre-more : (marks : List VariableMark) (step : ℕ) (seen more falses : List Literal) (l : Literal) → FalsesAre marks step seen falses → is_among falses l ≡ false → is_among falses (negation l) ≡ false → ((x : Literal) → is_literal_in_range (length marks) x ≡ false → is_false_unmarked more x ≡ is_among (l ∷ falses) x) → FalsesAre (with_mark marks step l) step more (l ∷ falses)
 FalsesAre-more marks step seen more falses l a f g out x = elim (cases_Bool (is_literal_in_range (length marks) x)) [
   | inl t ↦ rw (length-marked marks step l, t) (marked_more marks step falses l x (rw t at (a x)) t f g)
@@ -171,7 +171,7 @@ unmarked_more seen falses c l x a f = go (first_literal_of x.variable seen) refl
     go (Some m) e = rw (first_literal_of-some x.variable seen c m e, valued m e) (rw e at (a x refl))
     go None e = rw (first_literal_of-none x.variable seen c e) (fresh (first_literal_of x.variable c) refl (λ y v. sym (a y v) ∙ rw (v, e) refl))
 
--- after a hint forces a literal and its negation is marked, the marks and the hinted clauses still tell which literals are false
+-- after a hint forces a literal, and the negation of this literal is marked, the marks and the hinted clauses still tell which literals are false
 pub FalsesAre-forced : (known : List (Option (List Literal))) (marks : List VariableMark) (step : ℕ) (seen falses : List Literal) (h : ℕ) (l : Literal) → FalsesAre marks step seen falses → hint_finding known (is_among falses) h ≡ Forced l → FalsesAre (with_mark marks step (negation l)) step (seen ++ unwrap_or (clause_of known h) []) (negation l ∷ falses)
 FalsesAre-forced known marks step seen falses h l a e = at (clause_of known h) e
   where

@@ -44,7 +44,7 @@ or_left_out : (a b : Bool) → a ≡ false → (a || b) ≡ true → b ≡ true
 or_left_out true b e h = cc
 or_left_out false b e h = h
 
--- if the test calls only false literals false, and some literal of the clause is true, then so is one of those that the test does not call false
+-- if the test calls only false literals false, and a clause has a true literal, then it has a true literal that the test does not call false
 kept_true : (set : ℕ → Bool) (is_false : Literal → Bool) (clause : List Literal) → MarksFalse set is_false → list_any (is_true_under set) clause ≡ true → list_any (is_true_under set) (filter (λ l. not (is_false l)) clause) ≡ true
 kept_true set is_false [] m h = h
 kept_true set is_false (l ∷ clause) m h =
@@ -173,7 +173,7 @@ refutes_false set n known (step ∷ steps) s h =
       | inr r ↦ refutes_false set n (known_after known step.deletes ++ Some step.clause ∷ []) steps (All-push (TrueIfKnown set) _ (Some step.clause) (after_true set known step.deletes s) (λ c e. let q : step.clause ≡ c = some_eq _ _ e in subst (λ (x : List Literal). is_clause_true set x ≡ true) q t)) r
     ]
 
--- all clauses are known and true
+-- if the set satisfies the clauses, and the known clauses are exactly these, then each known clause is true
 all_true : (set : ℕ → Bool) (clauses : List (List Literal)) → Satisfies set clauses → KnownTrue set (map (λ c. Some c) clauses)
 all_true set clauses s = All-map (TrueIfKnown set) (λ c. Some c) clauses (λ k d l c e. let q : get_or clauses k d ≡ c = some_eq _ _ e in subst (λ (x : List Literal). is_clause_true set x ≡ true) q (s k d l))
 

@@ -78,7 +78,8 @@ Looked clauses number entries values new_entries new_values (Forced l) = Follows
 Looked clauses number entries values new_entries new_values Open =
     (new_entries ≡ entries) × (new_values ≡ values) × (number < length clauses → IsSettled values (slice_index_or clauses number []))
 
--- what holds after a look at a clause and at the clauses that wait because of it, depending on how far propagation got
+-- what holds after a look at this clause and, if it forces a literal, at the clauses that then wait to be looked at, depending on how far propagation
+-- got
 abbrev pub Followed : List (List Literal) → ℕ → List Entry → List (Option Bool) → List Entry → List (Option Bool) → Progress → Type 0
 Followed clauses number entries values new_entries new_values (Conflict conflict) = Conflicts clauses new_entries conflict
 Followed clauses number entries values new_entries new_values More = FollowsMore clauses values new_entries new_values

@@ -246,7 +246,7 @@ has_rules_given c = ap has_rules (sym (v.rolls-Given c)) ∙ fold-roll-Automaton
 pub has_rules_composed : (f g : Automaton) → has_rules (v.Composed f g) ≡ (has_rules f || has_rules g)
 has_rules_composed f g = ap has_rules (sym (v.rolls-Composed f g)) ∙ fold-roll-Automaton Bool has_rules_step (Automaton-F.Composed f g)
 
--- the number of nodes of the rules of an automaton by cases is that of its cases' rules
+-- if r is the number of nodes of the cases' rules, or none if there is no case, then `IsNodesOf` holds of the automaton by cases and r
 pub nodes_given : (c : Cases) (r : Option ℕ) → MatchOption r (length c.cases ≡ 0) (λ n. (s : CommonNumbers) → cases_fit s c.cases c.otherwise ≡ true → s.nodes ≡ n) → IsNodesOf (v.Given c) r
 nodes_given c None h = has_rules_given c ∙ ap (nat_lt 0) h
 nodes_given c (Some n) h = λ s fit. h s (sym (fits_given s c) ∙ fit)

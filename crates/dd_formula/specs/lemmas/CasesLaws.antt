@@ -21,7 +21,7 @@ module _ (r : LocalRule) (f : Counted) (large : (a : ℕ) → instances (expansi
   refused Depth few h = h
   refused Memory few h = tt
 
--- if an automaton by cases is refused for a fault, a composition with the same counts is refused for it too
+-- for the same counts, a fault that is right by `IsCasesRefusal` is also right by `IsCompositionFault`
 pub passes_one : (n : ℕ) (f : Counted) (e : RuleFault) → IsCasesRefusal n f e → IsCompositionFault n f e
 passes_one n f Instances h = h
 passes_one n f Reach h = h

@@ -8,7 +8,7 @@ use Rattle.dd_expansion.specs.{Leaves.total, lemmas.Layers.total-map}
 use Rattle.dd_formula.specs.Counts.{cut}
 
 module _ {X : Type 0} where
-  -- a joined list, with one more element
+  -- a joined list, with one more list at its end
   pub flat_more : {A : Type 0} (f : X → List A) (xs : List X) (i : ℕ) (x : X) → i < length xs → x ≡ get_or xs i x → flat_map f (take (i + 1) xs) ≡ flat_map f (take i xs) ++ f x
   flat_more f xs i x below is =
       ap (flat_map f) (take_more xs i x below)

@@ -25,7 +25,7 @@ pub record IsSteepest (levels : List (List (Option ℕ))) (last v weight run : �
   pub rise : at_weight + weight ≡ end
   pub run_is : run + at_length ≡ last
 
--- p is the least of l * b + m * (last - k) over the levels k below the last in which the entry of v is a weight; b is this weight
+-- p is the least of l * b + m * (last - k) over all k < last for which the entry of v in the level k is a weight; b is this weight
 pub record IsPotential (levels : List (List (Option ℕ))) (last v m l p : ℕ) : Type 0 where
   pub least : (k before : ℕ) → k < last → level_weight_at levels k v ≡ Some before → p ≤ l * before + m * (last - k)
   pub at_length : ℕ
@@ -44,7 +44,7 @@ abbrev pub IsLesser : ℕ → Option ℕ → ℕ → ℕ → ℕ → ℕ → Typ
 IsLesser best None m l run r = r ≡ best
 IsLesser best (Some b) m l run r = (r ≤ best) × (r ≤ l * b + m * run) × ((r ≡ best) ⊎ (r ≡ l * b + m * run))
 
--- whether the entry is a weight, and the sum of this weight and `weight`, the weight of an edge, is `end`
+-- whether the entry is a weight, and this weight plus `weight` is `end`; `weight` is the weight of an edge
 abbrev pub arrives : Option ℕ → ℕ → ℕ → Bool
 arrives None weight end = false
 arrives (Some a) weight end = (a + weight) == end
@@ -85,7 +85,8 @@ marked (Some r ∷ os) = suc (marked os)
 abbrev pub HasRiseIn : List (List (Option ℕ)) → ℕ → ℕ → ℕ → ℕ → ℕ → Type 0
 HasRiseIn levels last m l v end = (k : ℕ) × (before : ℕ) × (k < last) × (level_weight_at levels k v ≡ Some before) × (before * l + m * (last - k) ≤ end * l)
 
--- s is a state below i, with the greatest mean of its rises. This mean is the least among those of the states below i to which a longest walk leads
+-- s gives a state below i and the greatest mean of its rises. Each state below i to which a longest walk leads has a rise whose mean is at least this
+-- mean
 pub record IsGentlest (levels : List (List (Option ℕ))) (last i : ℕ) (s : Steep) : Type 0 where
   pub below : s.state < i
   pub steepest : IsSteepest levels last s.state s.mean.weight s.mean.length

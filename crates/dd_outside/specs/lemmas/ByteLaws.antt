@@ -29,7 +29,7 @@ front_after a b c before text so_far more = record {
   whole = ap (λ (l : List ℕ). before ++ l) more.whole ∙ sym (append_assoc before more.gained more.missing);
 }
 
--- `bytes` were read, and then at most `room` more bytes; so at most `limit` in all, if the length of `bytes` and `room` add up to at most `limit`
+-- `bytes` were read, and then at most `room` more bytes; so at most `limit` in all, if the length of `bytes` plus `room` is at most `limit`
 pub gave_few_more : (a b c : Option (List ℕ)) (bytes : List ℕ) (room limit : ℕ) → Consumes a b bytes → GivesAtMost b c room → length bytes + room ≤ limit → GivesAtMost a c limit
 gave_few_more a b c bytes room limit so_far more fits = record {
   given = bytes ++ more.given;
@@ -37,7 +37,7 @@ gave_few_more a b c bytes room limit so_far more fits = record {
   few = omega (arith, length-append bytes more.given, more.few);
 }
 
--- one more read makes the list of all bytes read longer by the count of this read
+-- one more read adds its count to the length of the list of all bytes read
 pub read_on_length : (a b : Option (List ℕ)) (before after : List ℕ) (count : ℕ) → ReadsOn a b before after count → length after ≡ length before + count
 read_on_length a b before after count read = omega (arith, ap length read.appended, length-append before read.given, read.counted)
 
@@ -49,8 +49,8 @@ read_on_consumes a b c before after count so_far read =
 pub length_take_at_most : (n : ℕ) (l : List ℕ) → length (take n l) ≤ n
 length_take_at_most n l = omega (arith, length-take {A = ℕ})
 
--- The next `n` bytes were copied to the start of a slice whose other bytes are `rest`. So the bytes from `at` on are the first `n` of the slice,
--- followed by the bytes from `at + n` on.
+-- The `n` bytes of `bytes` from the index `at` on were copied to the start of a slice whose other bytes are `rest`. So the part of `bytes` from `at`
+-- on is the first `n` bytes of the slice, followed by the part of `bytes` from `at + n` on.
 pub gave : (bytes copied rest : List ℕ) (at n : ℕ) → copied ≡ take (at + n - at) (drop at bytes) → length copied ≡ n → drop at bytes ≡ take n (copied ++ rest) ++ drop (at + n) bytes
 gave bytes copied rest at n copy long =
     let same : at + n - at ≡ n = omega arith in

@@ -8,7 +8,7 @@ use Rattle.dd_pattern.specs.Periods.{residue, quotient}
 pub le-self_mul : (a n : ℕ) → 0 < n → a ≤ a * n
 le-self_mul a n h = let one : a * 1 ≤ a * n = mul-le-mul_left a h in omega arith
 
--- if n is added to z |z| times, the result is a natural number m
+-- for a positive n: z plus |z| times n is a natural number m
 raised : (z : ℤ) (n : ℕ) → 0 < n → (m : ℕ) × (z +ℤ pos (unsigned_abs z * n) ≡ pos m)
 raised z n h =
     let big : unsigned_abs z ≤ unsigned_abs z * n = le-self_mul (unsigned_abs z) n h in

@@ -1,4 +1,5 @@
--- The count of a question's clauses bounds the number of its variables and the number of positions of its box or torus.
+-- The upper bound on the number of a question's clauses is at least the number of its variables, and at least the number of positions of its box or
+-- torus.
 use Rattle.std.proofs.Common.{◌≡◌, ℕ, zero, suc, ◌+◌, ◌*◌, ◌/◌, ◌%◌, ◌<◌, ◌≤◌, [], ◌∷◌, map, length, ap, ◌∙◌, arith, length-append}
 use Rattle.std.proofs.{Math.Nat.mul-add, Math.Nat.mul_assoc, lemmas.Nat.mul-le, lemmas.Nat.mod_below, lemmas.Nat.div-add-mod'}
 use Rattle.std.specs.{Prelude.◌-◌, List.filter}
@@ -27,7 +28,7 @@ symbols_below (suc (suc t)) =
     let whole = half n in
     omega (arith, least', rest, whole)
 
--- the number of variables is at most the count of clauses
+-- the number of variables is at most the upper bound on the number of clauses
 pub variables_below : (l : Layout) (x : LocalRule) (g : GoalOf) (b : Bounds) → l.places ≡ cells_in b x.nodes → (problem l x g).variables ≤ question_clauses x g (volume b)
 variables_below l x g b places =
     let v = volume b in
@@ -45,7 +46,7 @@ variables_below l x g b places =
     let more = mul-add v (x.nodes * cell_clause_count x.symbols) (disallowed_pairs x) in
     omega (arith, split, premise, cells, goal, inputs, fewer, turned, spread, more)
 
--- the number of positions is at most the count of clauses
+-- the number of positions is at most the upper bound on the number of clauses
 pub positions_below : (x : LocalRule) (g : GoalOf) (v : ℕ) → 1 ≤ x.nodes → v ≤ question_clauses x g v
 positions_below x g v some =
     let spread = mul-add v (x.nodes * cell_clause_count x.symbols + disallowed_pairs x) (rule_clauses x) in

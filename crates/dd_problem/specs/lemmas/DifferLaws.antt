@@ -1,4 +1,4 @@
--- What the gates that tell two values apart say. These gates are over earlier variables.
+-- The gates that tell two values apart: what they say, and that they are over earlier variables.
 use Rattle.std.proofs.Common.{◌≡◌, ℕ, zero, suc, ◌+◌, ◌<◌, ◌≤◌, Bool, true, false, List, [], ◌∷◌, ◌++◌, map, length, refl, ap, sym, subst, ◌∙◌, arith, inl, inr, Some, length-append, eq-eqb}
 use Rattle.std.proofs.{Math.Nat.eq-or-lt_of_le, lemmas.Bool.and_parts, lemmas.Bool.Decides.nat_tests, lemmas.List.Elements.All-weaker}
 use Rattle.std.specs.{Prelude.not, Prelude.◌&&◌, Prelude.◌||◌, Prelude.◌==◌, Prelude.slice_get, Bool.beq}

@@ -99,7 +99,8 @@ cold_made set f t (suc n) a says low =
     let first : set (f a) ≡ false = says a (omega arith) (omega arith) ∙ not_equal t a (omega (arith, low)) in
     (rw (first, rest.0) refl, rw (first, rest.1) refl)
 
--- the converse of `hot_at`: if exactly the variable with the number t is true, some variable is, at most one is, and its index in the list is t - a
+-- the converse of `hot_at`: if the variable with the number t is the only true one, some variable is true, no two are, and the true one has the index
+-- t - a in the list
 pub hot_made : (set : ℕ → Bool) (f : ℕ → ℕ) (t n a : ℕ) → ((s : ℕ) → a ≤ s → s < a + n → set (f s) ≡ (t == s)) → a ≤ t → t < a + n →
     (list_any set (map f (range_with_len a n)) ≡ true) × (at_most_one set (map f (range_with_len a n)) ≡ true) × (a + position_or_len set (map f (range_with_len a n)) ≡ t)
 hot_made set f t zero a says low high = absurd (omega arith)

@@ -13,7 +13,7 @@ use Rattle.dd_problem.specs.lemmas.Parts.{tests, parts_law}
 use Rattle.dd_problem.specs.lemmas.Reading.{IsWired, read_symbols, problem_read}
 use Rattle.dd_problem.specs.lemmas.Writing.{problem_gates, gates_fit, satisfied_by, input_in_range}
 
--- gates that agree with an assignment agree with every assignment that gives their variables the same values
+-- gates that agree with an assignment agree with every assignment that has the same values on the first n variables and on the gates' own
 pub agrees_alike : (set other : ℕ → Bool) (gs : List Gate) (n : ℕ) → Alike (n + length gs) other set → AreGates n gs → agrees other n gs ≡ agrees set n gs
 agrees_alike set other [] n same ok = refl
 agrees_alike set other (g ∷ gs) n same ok =

@@ -29,7 +29,7 @@ InputsTell set l m look = (c : Cell) (s : ℕ) → l.has c ≡ true → s < m �
 abbrev pub IsNumbered : Layout → Type 0
 IsNumbered l = (c : Cell) → l.has c ≡ true → l.index c < length l.places
 
--- a leaf with the cell c, relative to v, and the symbol s has its input: c has inputs, and s is one of the m symbols
+-- a leaf has its input: its cell c, relative to v, has inputs, and its symbol s is one of the m symbols
 abbrev pub has_input : Layout → ℕ → Place → Cell → ℕ → Bool
 has_input l m v c s = l.has (shifted v c) && nat_lt s m
 

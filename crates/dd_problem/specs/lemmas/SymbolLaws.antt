@@ -6,7 +6,7 @@ use Rattle.dd_formula.specs.{Living.Fits, LocalRule.LocalRule}
 use Rattle.dd_boxes.specs.Witnesses.{HasPeriods}
 use Rattle.dd_problem.specs.Symbols.{AreRead, HasOneEach}
 
--- a configuration with these periods has as many symbols as the torus has cells
+-- the list of symbols of a configuration with these periods has one symbol for each cell of the torus
 pub size_is : (x : LocalRule) (p : Periods) (t : Tile) → IsTile t → HasPeriods p t → Fits x t → length t.symbols ≡ periods_volume p * x.nodes
 size_is x p t tile has fit = rw (sym has, sym fit.nodes) tile.full
 

@@ -1,4 +1,4 @@
--- Conditions under which a layout has inputs for all that is read, and under which a goal holds at the origin exactly when its test passes.
+-- Conditions under which a layout has inputs for all that is read. A goal holds at the origin exactly when its test passes.
 use Rattle.std.proofs.Common.{◌≡◌, ℕ, zero, suc, ◌+◌, ◌<◌, ◌≤◌, Bool, true, false, List, [], ◌∷◌, map, refl, ap, sym, subst, ◌∙◌, arith, Some, None, inl, inr, eq-eqb}
 use Rattle.std.proofs.Math.Nat.{eq-or-lt_of_le}
 use Rattle.std.proofs.lemmas.Bool.{and_parts, and_from, or_cases, both_ways, eqb-true}

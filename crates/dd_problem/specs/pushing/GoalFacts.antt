@@ -4,8 +4,8 @@ use Rattle.dd_formula.specs.declared.automaton.Automaton.{Automaton}
 use Rattle.dd_compile.specs.Valued.{SaysItsValue}
 use Rattle.dd_boxes.specs.Goals.{GoalOf, breaks, differ, always, AreAlike, AreOver}
 
--- The two automata are well formed over the rule's dimension, nodes and symbols. They read only cells of the lattice, and the gates made for their
--- values compute these values.
+-- The two automata are well formed over the rule's dimension, nodes and symbols. They read only cells with a position in Z^d and one of the rule's
+-- nodes, and the gates made for their values compute these values.
 pub record HasValueFacts (x : LocalRule) (s : CommonNumbers) (f g : Automaton) : Type 0 where
   pub over : AreOver x s f g
   pub left_placed : IsPlaced f

@@ -58,7 +58,7 @@ words_are x (c ∷ cs) =
 pub fillings_are : (x : LocalRule) (cs : List Cell) → AreWords x (length cs) (fillings x cs)
 fillings_are x cs = All-filter (is_admissible x cs) (IsWord x (length cs)) (words x cs) (words_are x cs)
 
--- the fillings of one more cell, made from those of the cells before it
+-- the admissible fillings of the first j + 1 cells, made from those of the first j cells
 pub fillings_more : (x : LocalRule) (all : List Cell) → IsStrictlySortedBy cell_cmp all → AreInRange all → (j : ℕ) (c : Cell) → j < length all → get_or all j c ≡ c →
     fillings x (take (j + 1) all) ≡ flat_map (extended x (are_true x (take (j + 1) all) (settled x all j)) c.node) (fillings x (take j all))
 fillings_more x all up near j c below is =

@@ -1,5 +1,5 @@
--- Where the rule fits once the first cells have symbols. At these places, more symbols don't change whether the rule is true. So when one more cell
--- gets a symbol, the rule has to be tested only at the places where it then fits for the first time.
+-- The places where the rule fits, after the first cells have got symbols. At these places, more symbols don't change whether the rule is true. So
+-- when one more cell gets a symbol, the rule has to be tested only at the places where it then fits for the first time.
 use Rattle.std.proofs.Common.{◌≡◌, ◌<◌, ◌≤◌, ◌+◌, ℕ, zero, suc, Bool, true, false, cond, List, [], ◌∷◌, ◌++◌, length, get_or, map, take, drop, min, max, refl, sym, ◌∙◌, ap, subst, inl, inr, arith, get_or-drop, length-drop, rules}
 use Rattle.std.proofs.lemmas.Bool.{and_parts, and_from, and_left, and_right, cases_lt, cases_order, cases_Bool, lt-ltb, le-ltb, ltb-true, ne_eqb, eq-eqb, false≢true}
 use Rattle.std.proofs.lemmas.List.{take-append-drop, get_or_default, length-append}
@@ -60,7 +60,7 @@ number_here x c cs h = rw h refl
 pub same_cell : (x c : Cell) → x ≡ c → is_eq (cell_cmp x c) ≡ true
 same_cell x c e = ap is_eq (ap (λ z. cell_cmp z c) e ∙ tied_itself cell_total c)
 
--- in a list in cell order, a cell's number is its index
+-- in a list in cell order, the cell at index i has the number i
 pub number_is : (cs : List Cell) → IsStrictlySortedBy cell_cmp cs → (i : ℕ) (c : Cell) → i < length cs → get_or cs i c ≡ c → rank cs c ≡ i
 number_is [] up i c h e = absurd (omega arith)
 number_is (x ∷ cs) up zero c h e = number_here x c cs (same_cell x c e)

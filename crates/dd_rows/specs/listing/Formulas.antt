@@ -1,5 +1,5 @@
--- Formulas over the symbols of a list of cells. Each formula says that the rule is true at a given place. A place is one of the
--- cells. A cell's number is its index in the list, or the length of the list if the cell isn't there.
+-- Formulas over the symbols of a list of cells. Each formula says that the rule is true at a given place. A place is one of the cells. The number of
+-- a cell in range is its index in the list, or the length of the list if the cell isn't there.
 use Rattle.std.specs.{Prelude.ℕ, Prelude.◌<◌, Prelude.◌≡◌, Prelude.Bool, Prelude.List, Prelude.length, Prelude.All, List.list_all}
 use Rattle.dd_lattice.specs.{Place.Place, declared.position.Cell.Cell}
 use Rattle.dd_expansion.specs.Leaves.{seen}

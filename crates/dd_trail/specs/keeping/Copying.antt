@@ -25,7 +25,8 @@ is_kept alive number = nat_le 1 number && slice_index_or alive (number - 1) fals
 abbrev pub AreDenied : List Bool → List Code → ℕ → ℕ → Type 0
 AreDenied denied codes from to = (p : ℕ) → from ≤ p → p < to → slice_index_or denied (code_at codes p) false ≡ true
 
--- The same as `IsStop`, but with the list `denied` in place of the list of false literals. `denied` says of each code whether its literal is false.
+-- A stop: a clause whose literals from the third on, up to the end mark, are false. The clause's first literal is at `first`, and its end mark at
+-- `end`. `denied` says of each code whether its literal is false.
 pub record StopsAt (denied : List Bool) (codes : List Code) (first end : ℕ) : Type 0 where
   pub within : end < length codes
   pub apart : first + 2 ≤ end
@@ -38,8 +39,7 @@ FindsStop denied codes first (Stays other) = ⊤
 FindsStop denied codes first (Moves next other) = ⊤
 FindsStop denied codes first (AllFalse end) = StopsAt denied codes first end
 
--- A stop: a clause whose literals from the third on, up to the end mark, are false. The clause's first literal is at `first`, and its end mark at
--- `end`.
+-- The same as `StopsAt`, but with the list of false literals in place of the list `denied`.
 pub record IsStop (falses : List Literal) (codes : List Code) (first end : ℕ) : Type 0 where
   pub within : end < length codes
   pub apart : first + 2 ≤ end

@@ -103,7 +103,7 @@ pub all_flat_map : {X Y : Type 0} (P : Y → Type 0) (Q : X → Type 0) (f : X �
 all_flat_map P Q f h [] all = All-nil P
 all_flat_map P Q f h (x ∷ xs) all = All-append P (f x) (flat_map f xs) (h x (all_first Q x xs all)) (all_flat_map P Q f h xs (all_rest Q x xs all))
 
--- if a range grows by the number k + n at its end, its image under `flat_map f` grows by the list `f (k + n)` at its end
+-- if the number k + n is added at the end of a range, the list `f (k + n)` is added at the end of the range's image under `flat_map f`
 pub range_more : {X : Type 0} (f : ℕ → List X) (k n : ℕ) → flat_map f (range_with_len k (suc n)) ≡ flat_map f (range_with_len k n) ++ f (k + n)
 range_more f k zero = append-nil (f k) ∙ ap f (omega arith)
 range_more f k (suc n) =

@@ -32,8 +32,8 @@ many begins item (suc n) tokens = if begins tokens then (item tokens >>= λ x. m
 abbrev pub with_front : {X : Type 0} → List X → Option (List X × List Lexeme) → Option (List X × List Lexeme)
 with_front front read = read >>= λ x. Some (front ++ x.0, x.1)
 
--- The items are read one after another from `tokens`, and `rest` is left. `reads` says of a single item from which tokens it is read, and which
--- tokens are left.
+-- The items are read one after another from `tokens`, and `rest` is left. For a single item, `reads` says from which tokens the item is read, and
+-- which tokens are left.
 abbrev pub ReadsAll : {X : Type 0} → (X → List Lexeme → List Lexeme → Type 0) → List X → List Lexeme → List Lexeme → Type 0
 ReadsAll reads [] tokens rest = tokens ≡ rest
 ReadsAll reads (x ∷ xs) tokens rest = (between : List Lexeme) × reads x tokens between × ReadsAll reads xs between rest

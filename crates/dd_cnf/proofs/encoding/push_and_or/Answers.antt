@@ -5,8 +5,8 @@ use Rattle.dd_cnf.proofs.encoding.push_and_or.Goals as goal
 
 pub push_clause-requires-2 : goal.push_clause-requires-2
 push_clause-requires-2 c =
-    last_in_range c.loop-member.cnf.variables c.args.gate (not c.args.gate.positive) c.args.members.now c.deref.result.now c.loop-member.member-index
-    (c.deref.ensures.value ∙ c.loop-member.invariant.last) (rw c.loop-member.invariant.variables c.requires.gate) (rw c.loop-member.invariant.variables c.requires.members)
+    last_in_range c.loop-member.cnf.variables c.args.gate (not c.args.gate.positive) c.args.members.now c.as_slice.result.now c.loop-member.member-index
+    (c.as_slice.ensures ∙ c.loop-member.invariant.last) (rw c.loop-member.invariant.variables c.requires.gate) (rw c.loop-member.invariant.variables c.requires.members)
 
 pub loop-member-preserved : goal.loop-member-preserved
 loop-member-preserved c = grind (arith, common_steps)

@@ -1,7 +1,7 @@
 use Rattle.std.proofs.Common.{◌≡◌, ◌<◌, ℕ, List, length, get_or, true, false, ap, ◌∙◌, arith, eq-eqb}
 use Rattle.std.proofs.lemmas.{Grind.common_steps, Bool.ne_eqb, List.get_or_default}
 use Rattle.dd_circuit.specs.declared.gates.Signal.{Signal}
-use Rattle.dd_compile.specs.lemmas.CaseGates.{giving_step}
+use Rattle.dd_compile.specs.lemmas.CaseGates.{members_step}
 use Rattle.dd_compile.proofs.values.giving.Goals.{then-other-symbol+in_ok-push, else-other-symbol}
 use Rattle.dd_compile.proofs.values.giving.Goals as goal
 
@@ -22,10 +22,10 @@ loop-number-preserved c =
     let is' : f ≡ get_or fs i f = get_or_default fs i none f below' in
     elim c.if-other-symbol.branch [
       | then-other-symbol+in_ok-push w ↦
-          giving_step c.args.symbol xs fs c.loop-number.members.items c.if-other-symbol.members.items i x f true c.loop-number.invariant below below' is is'
+          members_step c.args.symbol xs fs c.loop-number.members.items c.if-other-symbol.members.items i x f true c.loop-number.invariant below below' is is'
           (eq-eqb x c.args.symbol w.if-other-symbol.true) (ap (λ v. v.items) w.members-is ∙ w.in_ok-push.ensures.items)
       | else-other-symbol w ↦
-          giving_step c.args.symbol xs fs c.loop-number.members.items c.if-other-symbol.members.items i x f false c.loop-number.invariant below below' is is'
+          members_step c.args.symbol xs fs c.loop-number.members.items c.if-other-symbol.members.items i x f false c.loop-number.invariant below below' is is'
           (ne_eqb x c.args.symbol w.if-other-symbol.false) (ap (λ v. v.items) w.members-is)
     ]
 

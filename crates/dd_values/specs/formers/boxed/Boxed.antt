@@ -28,7 +28,7 @@ the_former hole = hole
 abbrev pub the_weighed : {hole : Former {0}} → Weighed hole → Weighed (the_former hole)
 the_weighed weighed = weighed
 
--- the struct's only field: an address, the allocator, and the value at the address
+-- the struct's only field, a `Box`, in parts: an address, the allocator, and the value at the address
 abbrev fields : Former {0}
 fields = via (pair (const (Ptr × Global)) this) Inside (λ X kept. ((kept.inner.ptr, kept.inner.alloc), kept.inner.value))
     (λ X parts. record { inner = record { ptr = parts.0.0; alloc = parts.0.1; value = parts.1 } }) (λ X kept. refl) (λ X parts. refl)

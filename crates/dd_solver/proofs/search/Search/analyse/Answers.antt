@@ -15,10 +15,10 @@ invariant_of-self-2 c =
     let n = i.trail.variables in
     let now = known_through (all_known i.clauses.now) i.steps.items in
     let s : Step = record { clause = c.in_ok-clause.clause; hints = c.in_ok-hints.hints; deletes = c.from_vec-deletes.result } in
-    let e : s.clause ≡ c.in_ok-learned.learned.literals.items = c.in_ok-clause.ensures.ok ∙ c.as_slice-5.ensures.value in
+    let e : s.clause ≡ c.in_ok-learned.learned.literals.items = c.in_ok-clause.ensures.ok ∙ c.as_slice-6.ensures.value in
     let d : c.new-database.result ≡ now = c.new-database.ensures ∙ rw (c.as_slice.ensures.value, c.as_slice-2.ensures.value) c.self.invariant.3.same in
     let m : length c.as_mut_slice.result.now ≡ n = ap length c.as_mut_slice.ensures.value ∙ c.self.invariant.1 in
-    let r : is_rightly_learned n now s.clause s.hints ≡ true = rw (e, c.in_ok-hints.ensures, c.as_slice-6.ensures.value, ← d, ← m) c.in_ok-learned.ensures.right in
+    let r : is_rightly_learned n now s.clause s.hints ≡ true = rw (e, c.in_ok-hints.ensures, c.as_slice-7.ensures.value, ← d, ← m) c.in_ok-learned.ensures.right in
     let f : MayDelete now (length i.clauses.now) i.trail.entries s.deletes = rw (c.from_vec-deletes.ensures, ← d) c.in_ok-numbers.ensures in
     let w = c.learn.new.marked in
     let same : length w ≡ length i.marked.items = c.learn.auto.marked ∙ ap length c.as_mut_slice.ensures.value in
@@ -32,10 +32,10 @@ returns-clause-backjump c =
     let n = i.trail.variables in
     let now = known_through (all_known i.clauses.now) i.steps.items in
     let s : Step = record { clause = c.in_ok-clause.clause; hints = c.in_ok-hints.hints; deletes = c.from_vec-deletes.result } in
-    let e : s.clause ≡ c.in_ok-learned.learned.literals.items = c.in_ok-clause.ensures.ok ∙ c.as_slice-5.ensures.value in
+    let e : s.clause ≡ c.in_ok-learned.learned.literals.items = c.in_ok-clause.ensures.ok ∙ c.as_slice-6.ensures.value in
     let d : c.new-database.result ≡ now = c.new-database.ensures ∙ rw (c.as_slice.ensures.value, c.as_slice-2.ensures.value) c.self.invariant.3.same in
     let m : length c.as_mut_slice.result.now ≡ n = ap length c.as_mut_slice.ensures.value ∙ c.self.invariant.1 in
-    let r : is_rightly_learned n now s.clause s.hints ≡ true = rw (e, c.in_ok-hints.ensures, c.as_slice-6.ensures.value, ← d, ← m) c.in_ok-learned.ensures.right in
+    let r : is_rightly_learned n now s.clause s.hints ≡ true = rw (e, c.in_ok-hints.ensures, c.as_slice-7.ensures.value, ← d, ← m) c.in_ok-learned.ensures.right in
     let f : MayDelete now (length i.clauses.now) i.trail.entries s.deletes = rw (c.from_vec-deletes.ensures, ← d) c.in_ok-numbers.ensures in
     let t : MatchOption c.in_ok-learned.learned.backjump (s.clause ≡ []) (Asserts i.trail.entries s.clause) = rw e c.in_ok-learned.ensures.backjump in
     rw (c.watch_last.ensures, c.in_ok-push_step.ensures.steps) (goes_on n i.clauses.now i.steps.items i.trail.entries c.self.invariant.0 s c.in_ok-learned.learned.backjump r f t)
