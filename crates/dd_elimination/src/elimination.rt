@@ -195,11 +195,7 @@ impl Elimination {
 
     /// The indices of the clauses that contained a variable before it was eliminated.
     pub(crate) fn clauses_of(&self, eliminated: &Eliminated) -> &[usize] {
-        let Eliminated { start, end, .. } = *eliminated;
-        if start <= end && end <= self.replaced.len() {
-            return &self.replaced[start..end];
-        }
-        &[]
+        part(self.replaced.as_slice(), eliminated.start, eliminated.end)
     }
 
     /// Adds a clause. Its literals are the last ones of `literals`, from index `start` on. It waits to be compared with the

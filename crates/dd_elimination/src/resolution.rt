@@ -16,10 +16,10 @@ pub(crate) enum Relation {
     Unrelated,
 }
 
-/// The literals from index `start` up to `end`.
-pub(crate) fn part(literals: &[Literal], start: usize, end: usize) -> &[Literal] {
-    if start <= end && end <= literals.len() {
-        return &literals[start..end];
+/// The items from index `start` up to `end`.
+pub(crate) fn part<T>(items: &[T], start: usize, end: usize) -> &[T] {
+    if start <= end && end <= items.len() {
+        return &items[start..end];
     }
     &[]
 }
