@@ -106,7 +106,7 @@ number_before d ds ys place low high all =
 
 -- ---- symbols
 
--- a turn: the text of the symbols of two rows of the configuration
+-- a turn: the text of the symbols of two rows of the configuration's box
 abbrev pub turn : List ℕ
 turn = codes " 1 0 0 1"
 

@@ -121,7 +121,7 @@ rule_faultless : (x : Context) (s named l : ℕ) (tokens : List Lexeme) (f : For
 rule_faultless x s named l tokens f fs is =
     ap (λ (gs : List Fault). over (nat_lt 1000 x.number) limit.Commands ++ (flat_map (token_faults x.text) (w s 4 ∷ w named l ∷ tokens) ++ (named_again x.text x.known (word_at named l) ++ gs))) is
 
--- the names of the rules after the first rule command; `names_2` has those after the second, and so on
+-- the name of the first rule; `names_2` has the names of the first two rules, and so on
 abbrev pub names_1 : List (List ℕ)
 names_1 = codes "hard" ∷ []
 

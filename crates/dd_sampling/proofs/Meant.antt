@@ -157,28 +157,28 @@ or_clauses es = fold-roll-Expanded ℕ clause_count_step (Expanded-F.Or es)
 ruleset gates = (leaf_clauses, not_clauses, and_clauses, or_clauses)
 
 -- ---- for each rule: its expansion, how many instances and clauses the expansion has, and the cells that the rule reads
--- The instances are the expansion itself, its parts, their parts, and so on. The clauses are those that the expansion takes once it is written as
--- gates of a circuit.
-pub record Counts (f : Formula) (e : Expanded) (nodes clauses : ℕ) (cells : List Cell) : Type 0 where
+-- The instances are the expansion itself, its parts, their parts, and so on. The clauses are those of the gates, when the expansion is written as a
+-- circuit.
+pub record Counts (f : Formula) (e : Expanded) (size clauses : ℕ) (cells : List Cell) : Type 0 where
   pub expanded : expansion_at (plain_rule f) 0 ≡ e
-  pub nodes_are : instances e ≡ nodes
+  pub size_is : instances e ≡ size
   pub clauses_are : clause_count e ≡ clauses
   pub cells_are : reads_at (plain_rule f) 0 ≡ cells
 
 pub hard_counts : Counts hard_meant hard_expanded 6 6 (at 0 0 ∷ at 1 0 ∷ at 0 1 ∷ [])
-hard_counts = record { expanded = simp expansions; nodes_are = simp sizes; clauses_are = simp gates; cells_are = simp readings }
+hard_counts = record { expanded = simp expansions; size_is = simp sizes; clauses_are = simp gates; cells_are = simp readings }
 
 pub row_counts : Counts row_meant row_expanded 4 3 (at 0 0 ∷ at 1 0 ∷ [])
-row_counts = record { expanded = simp expansions; nodes_are = simp sizes; clauses_are = simp gates; cells_are = simp readings }
+row_counts = record { expanded = simp expansions; size_is = simp sizes; clauses_are = simp gates; cells_are = simp readings }
 
 pub dies_counts : Counts dies_meant dies_expanded 10 10 (at 0 0 ∷ at 1 0 ∷ at 0 0 ∷ at 1 0 ∷ at 2 0 ∷ [])
-dies_counts = record { expanded = simp expansions; nodes_are = simp sizes; clauses_are = simp gates; cells_are = simp readings }
+dies_counts = record { expanded = simp expansions; size_is = simp sizes; clauses_are = simp gates; cells_are = simp readings }
 
 pub zero_counts : Counts zero_meant zero_expanded 1 0 (at 0 0 ∷ [])
-zero_counts = record { expanded = simp expansions; nodes_are = simp sizes; clauses_are = simp gates; cells_are = simp readings }
+zero_counts = record { expanded = simp expansions; size_is = simp sizes; clauses_are = simp gates; cells_are = simp readings }
 
 abbrev pub dom_cells : List Cell
 dom_cells = flat_map (λ c. c ∷ []) (balls_of square.edges (at 0 0 ∷ []) (near ∷ []))
 
 pub dom_counts : Counts dom_meant dom_expanded 6 6 dom_cells
-dom_counts = record { expanded = simp expansions; nodes_are = simp sizes; clauses_are = simp gates; cells_are = simp readings }
+dom_counts = record { expanded = simp expansions; size_is = simp sizes; clauses_are = simp gates; cells_are = simp readings }

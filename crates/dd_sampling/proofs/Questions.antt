@@ -134,7 +134,7 @@ zero_dies_faultless bytes p stands =
     two_named bytes names_5 names_5 (up_word p (word_at 80 4)) (up_word p (word_at 85 4)) (codes "zero") (codes "dies")
     (word_up bytes p tail_text stands (word_at 80 4)) (word_up bytes p tail_text stands (word_at 85 4)) refl refl
 
--- the faults of a strip with the period v; the strip of the samples has the period 5
+-- the faults of the strip of a density query, if its period is v; in the samples v is 5
 abbrev strip_by : ℕ → List Fault
 strip_by v = over (nat_lt v 1 || nat_lt 64 v || false) limit.Periods
 

@@ -44,13 +44,13 @@ known rules configurations =
 
 -- the faults of a rule whose expansion has this many instances, and which reads these cells: the limits that it exceeds
 abbrev few_and_near : ℕ → List Cell → List Fault
-few_and_near nodes cells = over (not (nat_le nodes 20000 && true)) limit.Instances ++ (over (not (list_all is_near cells && true)) limit.Reach ++ [])
+few_and_near size cells = over (not (nat_le size 20000 && true)) limit.Instances ++ (over (not (list_all is_near cells && true)) limit.Reach ++ [])
 
-rule_faultless : {f : Formula} {e : Expanded} {nodes clauses : ℕ} {cells : List Cell} → Counts f e nodes clauses cells → few_and_near nodes cells ≡ [] → rule_faults (plain_rule f) ≡ []
-rule_faultless {f} {e} {nodes} {clauses} {cells} counts small =
+rule_faultless : {f : Formula} {e : Expanded} {size clauses : ℕ} {cells : List Cell} → Counts f e size clauses cells → few_and_near size cells ≡ [] → rule_faults (plain_rule f) ≡ []
+rule_faultless {f} {e} {size} {clauses} {cells} counts small =
     ap (λ (e : Expanded). few_and_near (instances e) (reads_at (plain_rule f) 0)) counts.expanded
-    ∙ (ap (λ (k : ℕ). few_and_near k (reads_at (plain_rule f) 0)) counts.nodes_are
-    ∙ (ap (λ (cs : List Cell). few_and_near nodes cs) counts.cells_are ∙ small))
+    ∙ (ap (λ (k : ℕ). few_and_near k (reads_at (plain_rule f) 0)) counts.size_is
+    ∙ (ap (λ (cs : List Cell). few_and_near size cs) counts.cells_are ∙ small))
 
 pub hard_few : rule_faults (plain_rule hard_meant) ≡ []
 hard_few = rule_faultless hard_counts refl
@@ -69,16 +69,16 @@ dom_few = rule_faultless dom_counts refl
 
 -- ---- questions
 
--- Each box question of a sample has two rules, the premise and the goal's rule. It asks whether no configuration that obeys the premise breaks the
--- goal's rule. `long_by` says whether the question has too many clauses. It computes this from the premise, the number of clauses of the premise, the
--- number of clauses of the goal's rule, and the cells that the goal's rule reads.
+-- A box question of a sample asks whether no configuration that obeys one rule, the premise, breaks another one, the goal's rule. `long_by` says
+-- whether a bound for the number of its clauses is greater than the limit. The bound is computed from the premise, the number of clauses of the
+-- premise, the number of clauses of the goal's rule, and the cells that the goal's rule reads.
 abbrev long_by : LocalRule → ℕ → ℕ → List Cell → Bool
 long_by x clauses goal cells =
     nat_lt most_clauses (largest_region x.dimension (max 3 (farthest (in_order cells ++ []))) 3 * (x.nodes * cell_clause_count x.symbols + disallowed_pairs x + (clauses + 0)) + (goal + 0 + 1))
 
-is_short_by : {f g : Formula} {e h : Expanded} {nodes clauses others goal : ℕ} {read cells : List Cell} → Counts f e nodes clauses read → Counts g h others goal cells
+is_short_by : {f g : Formula} {e h : Expanded} {size clauses others goal : ℕ} {read cells : List Cell} → Counts f e size clauses read → Counts g h others goal cells
     → long_by (plain_rule f) clauses goal cells ≡ false → is_long limits (plain_rule f) (breaks (plain_rule g)) ≡ false
-is_short_by {f} {g} {e} {h} {nodes} {clauses} {others} {goal} {read} {cells} premise broken short =
+is_short_by {f} {g} {e} {h} {size} {clauses} {others} {goal} {read} {cells} premise broken short =
     let x : LocalRule = plain_rule f in
     let y : LocalRule = plain_rule g in
     ap (λ (k : Expanded). long_by x (clause_count k) (clause_count (expansion_at y 0)) (reads_at y 0)) premise.expanded

@@ -1,5 +1,5 @@
 -- The commands of a sample are well formed and in an allowed order. Each command has a stage, which is a number. The order is allowed if the stage of
--- each command is at least that of the command before it, and greater if a script may have the command before it only once.
+-- each command is at least that of the previous command, and greater if the previous command is one that a script may have only once.
 use Rattle.std.proofs.Common.{◌≡◌, ℕ, zero, suc, ◌+◌, ◌≤◌, List, [], ◌∷◌, ◌++◌, length, map, true, codes, refl, sym, ap, ◌∙◌, subst, arith, length-append}
 use Rattle.std.proofs.lemmas.List.{length-map}
 use Rattle.std.specs.List.{list_all}
@@ -20,7 +20,7 @@ use Rattle.dd_written.specs.declared.tree.Name.TheVariants as name
 
 -- ---- the parts of the lexemes: a part is what follows one percent sign, up to the next
 
--- the parts of these lexemes with more lexemes after them, whose parts are q
+-- the parts of these lexemes and of those that follow them, if q are the parts of those that follow
 abbrev parts_onto : List Lexeme → List Lexeme × List (List Lexeme) → List Lexeme × List (List Lexeme)
 parts_onto [] q = q
 parts_onto (lexeme.Mark mark.Percent ∷ ts) q = ([], (parts_onto ts q).0 ∷ (parts_onto ts q).1)

@@ -32,7 +32,8 @@ n s = lexeme.Number (number_at s 1)
 
 -- ---- formulas
 
--- terms with the variable written at s: without a move, with the move written at m, and with the moves written at m and k
+-- A term is a variable, followed by moves. A move is a label after a dot, such as `.rt`, and goes along an edge of the topology. These are the terms
+-- with the variable written at s and no move, the move written at m, and the moves written at m and k.
 
 abbrev pub here : ℕ → Term
 here s = record { first = word_at s 1; moves = [] }
