@@ -1,4 +1,4 @@
--- Which number a word gives, told from the word's first character and from what `parse` reads.
+-- The first character of a word, and what `parse` reads from the word, determine which number the word gives.
 use Rattle.std.proofs.Common.{◌≡◌, ◌⊎◌, inl, inr, ℕ, zero, suc, ◌≤◌, List, slice_index, Result, Ok, sym, ◌∙◌, ap, subst, arith, decimal}
 use Rattle.std.specs.Str.Parse.{IsNumeral, digits_value, without_leading_plus, ParsesUnsigned}
 use Rattle.std.proofs.lemmas.Str.Parse.{numerals_by_value, tells_digits, without_leading_plus_none}
@@ -18,7 +18,7 @@ not_led word n writes (inr nought) = omega (arith, first_decimal n (omega (arith
 pub read_again : {E : Type 0} (word : List ℕ) (n : ℕ) (r : Result ℕ E) → ParsesUnsigned 32 10 word r → IsWrittenBy word n → r ≡ Ok n
 read_again word n r parsed writes = parse-decimal 32 n word r (omega (arith, writes.0.1)) (omega (arith, writes.0.1)) writes.1 parsed
 
--- a decimal that doesn't begin with a zero is at least 1
+-- a number whose decimal digits don't begin with a zero is at least 1
 not_0 : (word : List ℕ) (n : ℕ) → word ≡ decimal n → ¬ IsLed word → 1 ≤ n
 not_0 word zero is plain = absurd (plain (inr (ap (λ w. slice_index w 0) (is ∙ decimal_digit 0 (omega arith)))))
 not_0 word (suc n) is plain = omega arith

@@ -11,8 +11,7 @@ use Rattle.dd_pairs.specs.Made.{HavePairs}
 abbrev pub parts_of : Draft → Parts
 parts_of d = parts d.context.known d.made
 
--- the draft before the command with the number n; s is the script after the commands before it, and `topology` says whether the text has a `topology`
--- command
+-- the draft before the command with the number n; s is the script before this command, and `topology` says whether the text has a `topology` command
 abbrev pub draft_of : List ℕ → Bool → ℕ → Parts → Draft
 draft_of text topology n s =
     record {
