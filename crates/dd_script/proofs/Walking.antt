@@ -61,7 +61,8 @@ begins text ws d written begun kept =
     subst (Sofar text ws 0) (sym begun)
     (record { from = 0; left = (texts_of (lexemes_of text)).1; are = written.1.1; fresh = λ header. (refl, refl, refl, refl); script = kept; same_text = refl; leads = refl })
 
--- the stage of the first command is at least `from`, and the stages of the commands after it rise from `stage_after` of the first command
+-- the stage of the first command is at least `from`; the commands after it are in order, and their stages are at least `stage_after` of the first
+-- command
 next_one : (text : List ℕ) (from : ℕ) (ps : List (List Lexeme)) (w : Written) (ws : List Written) → AreCommands text from ps (w ∷ ws)
     → (from ≤ stage_of w) × (left : List (List Lexeme)) × AreCommands text (stage_after w) left ws
 next_one text from [] w ws are = absurd are

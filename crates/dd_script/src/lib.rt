@@ -10,8 +10,8 @@
 //! search limits. The commands after the header define rules, automata and periodic configurations, and ask queries.
 //!
 //! Each query asks a question, which holds the rules, automata and configurations themselves, not their names. A box question
-//! has a premise, which is a rule, and a goal, which may hold at a position, such as that another rule is broken there. It asks
-//! whether no configuration that obeys the premise has the goal at any position. A query about an image asks whether an
+//! has a premise, which is a rule, and a goal, a property of a position: that another rule is broken there, for example. It
+//! asks whether no configuration that obeys the premise has the goal at any position. A query about an image asks whether an
 //! automaton maps the configurations that obey one rule to configurations that obey another, the target. A query about a
 //! conjugacy asks whether two automata do this in both directions and are inverse to each other. The question of a query of
 //! either kind consists of box questions, each about a pair of automata. The goal is that the two automata of the pair differ
