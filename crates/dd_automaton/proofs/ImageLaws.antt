@@ -1,5 +1,5 @@
--- The image of a configuration, from the values in its fundamental box, and under compositions. Each cell that an automaton reads at a cell of the
--- box has a symbol.
+-- The image of a configuration: the values in the fundamental box determine it, and under a composition it is made in two steps. Each cell that an
+-- automaton reads at a cell of the box has a symbol.
 use Rattle.std.proofs.Common.{◌≡◌, ◌<◌, ℕ, zero, suc, ◌+◌, Bool, true, false, List, [], ◌∷◌, ◌++◌, Some, None, cond, length, slice_get, ap, sym, ◌∙◌, refl, subst, arith, inl, inr}
 use Rattle.std.proofs.Math.Nat.{eq-or-lt_of_le}
 use Rattle.std.proofs.lemmas.Bool.{and_parts, and_from, ltb-true, lt-ltb, leb-true}
@@ -65,8 +65,9 @@ tile_is_below n t h c = by (nat_lt c.node t.nodes)
     by true = below_at n t.symbols h (tile_index t c)
     by false = tt
 
--- Let s have the configuration's number of nodes, and let each cell of a list be near the origin (`is_near`) and be a cell of s (`is_cell_of`). Then
--- each of these cells, shifted by the position of a cell of the box, is in range and has a symbol.
+-- Let s be a dimension, a number of nodes and the size of an alphabet, with the configuration's number of nodes. Let each cell of a list be near the
+-- origin (`is_near`) and be a cell of s (`is_cell_of`). Then each of these cells, shifted by the position of a cell of the box, has coordinates of at
+-- most 2^20 in absolute value, and has a symbol.
 pub given_all : (t : Tile) (s : CommonNumbers) → IsPeriodic t → s.nodes ≡ t.nodes → (c : Cell) → IsInBox t c → (ds : List Cell) → list_all is_near ds ≡ true → list_all (is_cell_of s) ds ≡ true →
     are_given (tile_look t) c.position ds ≡ true
 given_all t s ok same c h [] near placed = refl
@@ -144,7 +145,7 @@ value_more h xs ys x n is long here before k below =
     by (inl same) = get_last xs x k (omega (arith, long, same)) ∙ ap Some (here ∙ ap h (sym same))
     by (inr less) = get_before xs x k (omega (arith, long, less)) ∙ before k less
 
--- a configuration made with the dimension, periods, shear and number of nodes that the code reads from t has those of t
+-- if d, ps, shear and n are the dimension, periods, shear and number of nodes of t, a configuration made from them has those of t
 pub tile_again : (t : Tile) (d shear n : ℕ) (ps ss : List ℕ) → d ≡ t.dimension → ps ≡ t.periods.x ∷ t.periods.y ∷ t.periods.z ∷ [] → shear ≡ t.periods.shear → n ≡ t.nodes →
     tile d (periods_of ps shear) n ss ≡ tile t.dimension t.periods t.nodes ss
 tile_again t d shear n ps ss one two three four =

@@ -7,8 +7,9 @@ use dd_pattern::Periodic;
 use std::alloc::{AllocError, Global};
 
 /// The image of the configuration under the automaton. It has the automaton's value at every cell, and the configuration's
-/// periods and shear. A value may be a symbol that the cell's node doesn't allow. The automaton must be well formed over the
-/// configuration's dimension and number of nodes and over an alphabet that has all symbols of the configuration.
+/// periods and shear. A node may allow only some symbols, and a value may be a symbol that the cell's node doesn't allow. The
+/// automaton must be well formed over the configuration's dimension and number of nodes and over an alphabet that has all
+/// symbols of the configuration.
 ///
 /// # Errors
 /// `AllocError` if memory ran out.
