@@ -100,7 +100,7 @@ module _ (back : AreWrittenBack) (l : Limits) where
       let both = right.decided in
       subst (IsEqualCertificate l x y) (sym (right.written ∙ ap written_equality both.join)) (joined_is x y both.left both.right both.left_decided both.right_decided)
 
-  -- a YES to one of the four questions of a conjugacy gives a part of the conjugacy's certificate
+  -- a query about a conjugacy asks four box questions; a YES to one of them gives a part of the conjugacy's certificate
   yes_at : (c : ConjugacyOf) (k n : ℕ) (x : LocalRule) (g : GoalOf) (steps : List Step) → IsPart c k x g → ComesTo l c k (decision.Yes n steps) →
       IsYes l x g n steps
   yes_at c k n x g steps part comes =

@@ -1,5 +1,5 @@
--- Which queries come down to box questions. Engines are asked for these queries. A box question has a rule and a goal: a property of a position,
--- such as that another rule is broken there. It asks whether no configuration that obeys the rule has the goal at any position.
+-- Which queries come down to box questions. Engines are asked only when such a query is answered. A box question has a rule and a goal: a property of
+-- a position, such as that another rule is broken there. It asks whether no configuration that obeys the rule has the goal at any position.
 use Rattle.std.specs.Prelude.{◌⊎◌, List, [], ◌∷◌, IsSomeAnd}
 use Rattle.dd_query.specs.declared.queries.Query.{Query}
 use Rattle.dd_respond.specs.Asking.{IsBoxQuestion}

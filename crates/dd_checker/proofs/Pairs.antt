@@ -1,7 +1,7 @@
 -- The claim of each certificate for a query about an image or a conjugacy is true. Such a query consists of comparisons. A comparison asks whether
 -- the image of a configuration can break a rule or have a symbol that isn't allowed, or whether two automata, applied one after the other, can change
--- a configuration. It becomes a box question about a pair of automata: whether the two can differ. The script doesn't store these pairs, but its
--- invariant says what the proof needs to know of their automata.
+-- a configuration. Each comparison becomes a box question about two automata that are made for it, its pair: whether these two can differ. The script
+-- doesn't store these pairs, but its invariant says what the proof needs to know of their automata.
 use Rattle.std.proofs.Common.{◌≡◌, true, List, [], Some, None, Option, subst, arith}
 use Rattle.std.proofs.lemmas.{List.Elements.All-contains}
 use Rattle.std.specs.{List.All, List.Contains, Prelude.unwrap_or, Prelude.slice_get}
@@ -33,7 +33,7 @@ module _ (s : Parts) where
     right_says = pair.gates.right.says;
   }
 
-  -- if the question is sound, the facts about its goals hold (`HaveGoalFacts` says which)
+  -- if the question's parts fit together and it exceeds no limit, the facts about its goals hold (`HaveGoalFacts` says which)
   abbrev FactsIfSound : Asked → Type 0
   FactsIfSound k = IsSoundAsked s.known.limits k → HaveGoalFacts k
 

@@ -33,11 +33,11 @@ pub(crate) fn query_certified(script: &Script, query: &Query)
     }
 }
 
-/// Changes nothing. Its contract says that the claim of each certificate for a query of the script is true. For example, the
-/// answer BOUND gives a lower bound for the weight per position, by means of a discharge, which is a plan for moving weight
-/// between positions. Its claim covers boxes of every side length at every position. In each configuration that obeys the
-/// rule, such a box weighs at least the number of its positions times the bound, less what it may receive from outside under
-/// the plan.
+/// Changes nothing. Its contract says that the claim of each certificate for a query of the script is true. For example, each
+/// symbol has a weight, and the answer BOUND gives a lower bound for the weight per position. It does so by means of a
+/// discharge, which is a plan for moving weight between positions. Its claim covers boxes of every side length at every
+/// position. In each configuration that obeys the rule, such a box weighs at least the number of its positions times the bound,
+/// less what it may receive from outside under the plan.
 pub fn certified(script: &Script)
     ensures { (number : ℕ) (answer : AnyAnswer) → IsCertificate script.now number answer → Claim script.now number answer }
 {

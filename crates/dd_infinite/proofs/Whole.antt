@@ -1,6 +1,6 @@
 -- Which functions are configurations with the script's nodes and allowed symbols. The spike and the checkerboard are such configurations if each
--- position has one node, and this node allows the symbols 0 and 1. So are the configurations that the script defines. The file also shows that the
--- conditions of `IsExclusion` together give it, and so do those of `IsInversion`.
+-- position has one node, and this node allows the symbols 0 and 1. So are the configurations that the script defines. The file also shows that
+-- `IsExclusion` follows from its conditions, and `IsInversion` from its own.
 use Rattle.std.proofs.Common.{◌≡◌, ℕ, zero, suc, ◌<◌, ◌+◌, ◌-◌, ◌*◌, ◌%◌, pos, Bool, true, false, length, refl, sym, subst, arith, inl, inr, Contains}
 use Rattle.std.proofs.lemmas.{Bool.and_from, Int.ints, Nat.mod_below, Nat.mod-mul-add}
 use Rattle.std.proofs.lemmas.List.Elements.{All-contains}

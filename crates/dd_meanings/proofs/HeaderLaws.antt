@@ -16,7 +16,7 @@ use Rattle.dd_meanings.proofs.Nothing.{parts}
 pub dimension_is : (x : Context) (n : Number) (d : ℕ) → faults_of x (Command.Dimension n) ≡ [] → d ≡ min (written_value x.text n) 4294967295 → d ≡ written_value x.text n
 dimension_is x n d h is = grind (arith, common_steps)
 
--- the default topology, which was made as g, is well formed and has n nodes
+-- the default topology is well formed and has n nodes; g is this topology as the code has made it
 pub default_sound : (d n : ℕ) (g : Grid) → IsGrid g → g ≡ default_grid d n → IsGridOf n (default_grid d n)
 default_sound d n g sound is = record { grid = subst IsGrid is sound; nodes = grind (arith, parts) }
 

@@ -28,8 +28,8 @@ depth_chain j fs = ap tree_depth (sym (v.rolls-Chain j fs)) ∙ fold-roll-Formul
 pub depth_quantified : (q : Quantifier) (w : Word) (balls : List Ball) (f : Written) → tree_depth (v.Quantified q w balls f) ≡ 1 + tree_depth f
 depth_quantified q w balls f = ap tree_depth (sym (v.rolls-Quantified q w balls f)) ∙ fold-roll-Formula ℕ tree_depth_step (Written-F.Quantified q w balls f)
 
--- Suppose that k plus the greatest depth that the parts from part i on reach in a chain is at most 64. Then k plus the depth of part i itself is at
--- most 64. So is k plus the greatest depth that the parts after part i reach in the chain.
+-- Let D(i) be the greatest depth that part i and the later parts reach in a chain. If k + D(i) is at most 64, then k plus the depth of part i itself
+-- is at most 64, and so is k + D(i + 1).
 pub depth_from : (j : Join) (n i k : ℕ) (fs : List Written) (f : Written) → i < length fs → f ≡ slice_index_or fs i f → k + chain_depth j n i (map tree_depth (drop i fs)) ≤ 64
     → (k + tree_depth f ≤ 64) × (k + chain_depth j n (i + 1) (map tree_depth (drop (i + 1) fs)) ≤ 64)
 depth_from j n i k fs f lt at le = grind (arith, parts)

@@ -1,4 +1,4 @@
--- A written formula without a fault means a formula that is no deeper, and whose numbers are in range.
+-- The meaning of a written formula without a fault is a formula that is no deeper than the written one, and whose numbers are in range.
 use Rattle.std.proofs.Common.{◌≡◌, ◌≤◌, ℕ, ◌+◌, ◌-◌, Bool, true, List, [], ◌∷◌, ◌++◌, length, map, refl, sym, ap, ◌∙◌, subst, inl, inr, arith, nat_lt, max}
 use Rattle.std.specs.List.{list_all, flat_map}
 use Rattle.std.proofs.lemmas.{Bool.and_from, Bool.lt-ltb, Bool.cases_Bool, List.length-map, List.length-append, List.Folds.list_all-map}
@@ -117,7 +117,7 @@ module _ (x : Context) (same : x.known.setting.topology.nodes ≡ length x.known
     abbrev faults : List Known → List Fault
     faults fs = flat_map (λ (f : List Word → List Fault). f scope) (map (formula_faults x) (map (λ f. f.0) fs))
 
-    -- chains of `&` or `|`, in which each part has one sign above it in the tree
+    -- chains of `&` or `|`, in which each part has one of these signs above it in the tree
     list_is : (j : Join) → ((n i : ℕ) → signs_over j n i ≡ 1) → (n i : ℕ) (fs : List Known) → faults fs ≡ []
         → (list_all (λ (f : ℕ → Bool). f (length scope + 1)) (map its_fits (meant fs)) ≡ true) × (1 + greatest (map depth (meant fs)) ≤ max 1 (chain_depth j n i (depths fs)))
     list_is j one n i [] none = (refl, omega arith)
@@ -131,7 +131,8 @@ module _ (x : Context) (same : x.known.setting.topology.nodes ≡ length x.known
     list_no_deeper j n [] le one = omega arith
     list_no_deeper j n (f ∷ fs) le one = grind (arith, le, one n 0)
 
-    -- chains of `->` with n parts: f and fs are the parts from part i on; in the tree of the whole chain, what they mean lies below i signs
+    -- chains of `->` with n parts: f and fs are part i and the later ones; the formula that joins them lies below i of the signs in the tree of the
+    -- whole chain
     implied_is : (n i : ℕ) (f : Known) (fs : List Known) → n ≡ i + (1 + length fs) → faults (f ∷ fs) ≡ []
         → (its_fits (implied_of (meant (f ∷ fs))) (length scope + 1) ≡ true) × (i + depth (implied_of (meant (f ∷ fs))) ≤ chain_depth Join.Implies n i (depths (f ∷ fs)))
     implied_is n i f [] count none =

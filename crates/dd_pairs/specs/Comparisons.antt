@@ -29,8 +29,8 @@ IsComparisonOf s (change x f g) = IsRuleOf s x × IsAutomatonOf s f × IsAutomat
 -- The pair of a comparison. For an image, the two automata of the pair differ exactly at the cells at which the second rule is false in the image or
 -- the image has a symbol that isn't allowed. The left automaton applies the comparison's automaton, and then `marked` of the second rule. So it gives
 -- 0 at the cells at which the second rule is true in the image and the image has an allowed symbol, and 1 at all others. The right automaton always
--- gives 0. For a change, the two automata differ exactly at the cells whose symbol changes. The left automaton applies the second automaton of the
--- comparison and then the first. The right automaton leaves each symbol as it is.
+-- gives 0. In the case of `change`, the two automata differ exactly at the cells whose symbol changes. The left automaton applies the second
+-- automaton of the comparison and then the first. The right automaton leaves each symbol as it is.
 abbrev pub pair_of : Setting → ComparisonOf → Pair
 pair_of s (image x f y) = record { left = Composed (marked s.topology s.sets y) f; right = always_zero s.topology s.sets }
 pair_of s (change x f g) = record { left = Composed f g; right = identity s.topology s.sets }

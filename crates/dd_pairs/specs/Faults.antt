@@ -17,7 +17,7 @@ limit_of Excess.Patterns = Limit.Patterns
 limit_of Excess.States = Limit.States
 
 -- For an image, the guarded formula says that the second rule is true and that the cell's node allows the cell's symbol. If this formula is too deep,
--- the fault is the limit on depth. Otherwise, and for a change, there is no fault.
+-- the fault is the limit on depth. Otherwise there is no fault. A comparison of the form `change` never has one here.
 abbrev pub guard_faults : Setting → ComparisonOf → List Fault
 guard_faults s (image x f y) = over (nat_lt most_nested (guarded_depth s.sets y)) Limit.Depth
 guard_faults s (change x f g) = []

@@ -1,4 +1,4 @@
--- The goal that the automata of a pair differ, and the conjugacy with four such goals, as values of the program.
+-- The goal that the automata of a pair differ, and the question about a conjugacy, which has four such goals, as values of the program.
 use Rattle.std.specs.Prelude.{◌≡◌, List, [], ◌∷◌}
 use Rattle.dd_boxes.specs.{declared.goals.Goal.Goal, Views.goal_of}
 use Rattle.dd_formula.specs.LocalRule.{LocalRule}
@@ -9,7 +9,8 @@ use Rattle.dd_pairs.specs.{declared.pair.Pair.Pair, Comparisons.difference}
 abbrev pub IsDifferenceOf : Pair → Goal → Type 0
 IsDifferenceOf p g = (x : LocalRule) → goal_of x g ≡ difference x p
 
--- the conjugacy of two rules, with four goals, one for each of these pairs; each goal says that the automata of its pair differ
+-- the question about a conjugacy between the subshifts of two rules, with four goals, one for each of these pairs; each goal says that the automata
+-- of its pair differ
 abbrev pub conjugacy_by : LocalRule → LocalRule → Pair → Pair → Pair → Pair → ConjugacyOf
 conjugacy_by x y image image_back round round_back =
     record { from = x; to = y; image = difference x image; image_back = difference y image_back; round = difference x round; round_back = difference y round_back }

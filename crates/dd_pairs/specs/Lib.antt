@@ -4,7 +4,7 @@ pub mod Comparisons
 pub mod Faults
 -- what the program makes from comparisons
 pub mod Made
--- the goal that the automata of a pair differ, and the conjugacy with four such goals
+-- the goal that the automata of a pair differ, and the question about a conjugacy, which has four such goals
 pub mod Goals
 -- which comparisons a query of a script consists of, and which pairs it asks about
 pub mod Queries

@@ -1,6 +1,7 @@
 //! Pairs of automata. Each position of the lattice Z^d has one or more nodes. A cell is a position together with one of its
-//! nodes. A configuration gives each cell a symbol. It obeys a rule if it gives each cell a symbol that the cell's node
-//! allows, and the rule is true at every cell. An automaton maps configurations to configurations.
+//! nodes. A configuration gives each cell a symbol. It obeys a rule if it gives each cell a symbol that the cell's node allows,
+//! and the rule is true at every cell. An automaton maps configurations to configurations. A script gives a topology (the
+//! labelled edges between cells), defines rules and automata over it, and asks queries.
 //!
 //! A query about an image asks whether an automaton maps the configurations that obey one rule to configurations that obey
 //! another, the target. A query about a conjugacy asks whether two automata do this in both directions and are inverse to each

@@ -29,7 +29,8 @@ period_within bytes [] j h = (omega arith, omega arith)
 period_within bytes (e ∷ es) zero h = grind (arith, parts)
 period_within bytes (e ∷ es) (suc j) h = period_within bytes es j (or_parts _ _ h).1
 
--- if the vectors have no faults as periods of a strip, the strip's periods are within their bounds; the first vector, if there is one, gives them
+-- if the vectors have no faults as periods of a strip, the strip's periods are within their bounds; the first vector, if there is one, gives the
+-- periods
 pub strip_is : (x : Context) (vs : List Vector) → flat_map (strip_faults x) vs ≡ [] → AreStripPeriods (dimension_of x.known) (strip_periods x.text vs)
 strip_is x [] none = search rules
 strip_is x (v ∷ vs) none =

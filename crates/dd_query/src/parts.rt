@@ -16,8 +16,9 @@ use dd_values::Items;
 use dd_written::{Name, Text, number_value};
 use std::alloc::{AllocError, Global};
 
-/// The number of the rule, automaton or configuration that the word at the index `place` names; 0 if there is no such word, if
-/// the table of queries gives it no role, or if nothing of its role has this name.
+/// The number of the rule, automaton or configuration that the word at the index `place` names. The word's role says which of
+/// the three it names (see `Role` of `dd_commands`). The number is 0 if there is no such word, if this kind of query gives it
+/// no role, or if nothing of its role has this name.
 pub(crate) fn word_at(context: &Context, request: &Request, place: usize) -> u32
     ensures { result ≡ word_at context.now request.now place }
 {

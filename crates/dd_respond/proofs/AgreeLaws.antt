@@ -160,8 +160,8 @@ unless_bare (decision.Yes n steps) P = refl
 unless_bare (decision.No t) P = refl
 unless_bare decision.Unknown P = refl
 
--- The join of two decisions (`joined` of dd_contain), taken without their evidence, doesn't change if the right decision is replaced by another that
--- differs only in its evidence. If the left decision is NO, the right decision may be replaced by any other.
+-- The join of two decisions (`joined` of dd_contain), taken without their evidence, doesn't change if the second decision is replaced by another that
+-- differs from it only in its evidence. If the first decision is NO, the second one may be replaced by any other.
 joined_bare : (l r k : Decision) → UnlessNo l (bare r ≡ bare k) → joined (bare l) (bare r) ≡ joined (bare l) (bare k)
 joined_bare (decision.No t) r k same = refl
 joined_bare (decision.Yes n steps) r k same = ap (joined (decision.Yes n [])) same

@@ -36,7 +36,7 @@ density_right least empty x strip ws rule narrow (density.Least p q walk potenti
 density_right least empty x strip ws rule narrow (density.Empty ranks) h =
     right_empty (empty x strip ranks rule narrow h).nowhere h
 
--- a transfer graph has at least one state
+-- the rule's transfer graph over a strip (see dd_transfer) has at least one state
 some_state : (x : LocalRule) (s : Strip) → IsRule x → 1 ≤ states x (positions s)
 some_state x s rule =
     one-le-pow (state_length x) (slices x (positions s)) (one-le-pow (x.nodes * positions s) x.symbols rule.symbols.0)

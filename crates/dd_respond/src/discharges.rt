@@ -44,8 +44,9 @@ fn reason_of(fault: DischargeFault) -> Result<Reason, AllocError>
 }
 
 /// The best bound over all discharges along the vectors, with its evidence. The amounts depend on the patterns of the given
-/// radius. The fillings cover the boxes of these patterns, each enlarged by the margin in every direction (see `dd_rows`). The
-/// simplex run may take at most `pivots` pivots. If no bound is found, the answer is UNKNOWN with the reason.
+/// radius. The fillings cover the boxes of this radius around a position and around those that give to it, each box enlarged by
+/// the margin in every direction (see `dd_rows`). The simplex run may take at most `pivots` pivots. If no bound is found, the
+/// answer is UNKNOWN with the reason.
 pub(crate) fn discharged(
     alloc: Global,
     rule: &Rule,

@@ -1,4 +1,5 @@
--- A vector with an entry for each axis may be the offset of an edge, if no entry is over 4 in absolute value.
+-- A topology has edges between cells. The offset of an edge leads from the position of its first cell to that of its second. A vector with an entry
+-- for each axis may be such an offset, if no entry is over 4 in absolute value.
 use Rattle.std.proofs.Common.{◌≡◌, ◌≤◌, ℕ, true, false, List, Option, Some, None, length, refl, subst, arith}
 use Rattle.std.proofs.lemmas.Bool.{eqb-true, ltb-false, lt-ltb, le-leb, and_from}
 use Rattle.std.proofs.lemmas.{Int.ints, Option.slice_get_within, Map.Keys.any_passes_from_place}
