@@ -1,4 +1,4 @@
--- No torus within a question's limit on periods has more positions than the largest region that the question may try.
+-- A torus with periods of at most p has no more positions than the torus with the period p along each axis, and so no more than `largest_region`.
 use Rattle.std.proofs.{Common.◌≡◌, Common.ℕ, Common.zero, Common.suc, Common.◌*◌, Common.◌^◌, Common.◌≤◌, Common.arith, lemmas.Nat.mul-le}
 use Rattle.dd_pattern.specs.{declared.periods.Periods.Periods, Periods.AreWithin, Periods.periods_volume as tile_volume}
 use Rattle.dd_formula.specs.Counts.{largest_region}

@@ -99,7 +99,7 @@ pub fn decide_equal<E: Engine>(
     kept_is_transitive();
     first_asked_earlier();
     match decide(alloc, left, &Goal::Breaks(right), limits, roster)? {
-        // The answer is NO, whatever the right answer is.
+        // The answer is NO, whatever the answer to the second question is.
         Decision::No { periodic } => Ok(joined(Decision::No { periodic }, Decision::Unknown)),
         first => {
             let second = decide(alloc, right, &Goal::Breaks(left), limits, roster)?;

@@ -6,8 +6,8 @@
 //!
 //! The box of radius n consists of the positions of Z^d whose coordinates are from -n to n. The search goes through boxes of
 //! growing radius, until one has no admissible filling with the goal at the origin: its radius suffices. (A filling gives each
-//! cell of the box a symbol that the cell's node allows. It is admissible if the premise is true at each of its cells where
-//! all that the premise reads has a symbol.)
+//! cell of the box a symbol that the cell's node allows. It is admissible if the premise is true at each cell of the box at
+//! which the premise reads only cells of the box. A rule or a goal reads the cells whose symbols it looks up.)
 //!
 //! If none of the radii that may be tried suffices, the search goes through tori of growing volume. A torus stands for the
 //! configurations that repeat along the vectors `(x, 0, 0)`, `(shear, y, 0)` and `(0, 0, z)`. Here x, y and z are its periods,

@@ -106,7 +106,7 @@ impl<'a> Questions for BoxQuestion<'a> {
         radius: u32,
         roster: &mut Roster<E>,
     ) -> Result<Option<Items<Step>>, AllocError> {
-        // A law: `Kept` holds from a roster to itself.
+        // A law: an unchanged roster keeps its sound engines (`Kept`).
         kept_is_reflexive();
         let cnf = box_clauses(self.alloc, self.premise, self.goal, radius)?;
         match outcome(self.alloc, &cnf, box_style(self.goal), roster)? {
@@ -120,7 +120,7 @@ impl<'a> Questions for BoxQuestion<'a> {
         at: &Periods,
         roster: &mut Roster<E>,
     ) -> Result<Option<Periodic>, AllocError> {
-        // A law: `Kept` holds from a roster to itself.
+        // A law: an unchanged roster keeps its sound engines (`Kept`).
         kept_is_reflexive();
         // This call tells the proof what the type of the premise guarantees.
         let _nodes = self.premise.nodes();
@@ -168,7 +168,7 @@ pub fn decide<E: Engine>(
     ensures decided { IfOk result (IsDecision premise.now (goal_of premise.now goal.now) limits.now.radius limits.now.period) }
     ensures engines { AreAsked (roster_seen E.asked E.given E.sound roster.old) (roster_seen E.asked E.given E.sound roster.new) result }
 {
-    // A law: `Kept` holds from a roster to itself.
+    // A law: an unchanged roster keeps its sound engines (`Kept`).
     kept_is_reflexive();
     let least = least_radius(alloc, goal)?;
     let most = limits.radius.max(least);

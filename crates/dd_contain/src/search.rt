@@ -132,7 +132,7 @@ fn first_periods<Q: Questions, E: Engine>(
     ensures kept { Kept (roster_seen E.asked E.given E.sound roster.old) (roster_seen E.asked E.given E.sound roster.new) }
     ensures asked { OnOk result (AskedOrSame (roster_seen E.asked E.given E.sound roster.old) (roster_seen E.asked E.given E.sound roster.new)) }
 {
-    // A law: `Kept` holds from a roster to itself.
+    // A law: an unchanged roster keeps its sound engines (`Kept`).
     kept_is_reflexive();
     let all = Periods::within(alloc, dim, most)?;
     first_listed(questions, &all, roster)

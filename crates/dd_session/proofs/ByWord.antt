@@ -11,7 +11,7 @@ use Rattle.dd_session.proofs.Words.{different, alone, one_sample}
 
 -- ---- what is read and written
 
--- If the words ask for something and the status is not `BadWords`, `IsIdle` holds.
+-- If the words ask for something and the status is not `BadWords`, `IsIdle` holds trivially.
 idle_never : {S K : Type 0} (words : List (List ℕ)) (source : Change S) (sink : Change K) (status : Status) → status ≢ BadWords → ¬ AreBad words
     → IsIdle words source sink status
 idle_never words source sink status never asked = record {

@@ -96,7 +96,7 @@ has_begun P left_old left_new held_old held_new given bytes to_end short same (i
 has_begun P left_old left_new held_old held_new given bytes to_end short same (inr run) =
     inr record { bytes = given; read = to_end; short = short; run = subst (λ (l : List ℕ). Begun held_old held_new l) same run }
 
--- If the bytes of the source are known and a run doesn't accept them, `HasBegun` is false, so P holds.
+-- If the bytes of the source are known and a run doesn't accept them, `HasBegun` is false. So if P or `HasBegun` holds, P holds.
 pub refused_unasked : (P : Type 0) (bytes : List ℕ) (left_old left_new held_old held_new : Option (List ℕ)) → left_old ≡ Some bytes → ¬ IsAccepted bytes
     → P ⊎ HasBegun left_old left_new held_old held_new → P
 refused_unasked P bytes left_old left_new held_old held_new is never (inl p) = p

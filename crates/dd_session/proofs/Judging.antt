@@ -30,7 +30,7 @@ on_err (Err e) P fact = fact
 
 -- ---- one answer
 
--- if an answer is accepted, there are an answer and a query with its number
+-- if `IsAcceptedAt` holds for a number, there are an answer and a query with this number
 pub accepted_within : (s : Parts) (answers : List Answer) (n : ℕ) → IsAcceptedAt s answers n → (n - 1 < length answers) × (n - 1 < length s.queries)
 accepted_within s answers n accepted =
     let there = some_there (slice_get answers (n - 1)) (λ a. IsCertificate s n a) accepted in
@@ -40,7 +40,7 @@ accepted_within s answers n accepted =
 pub has_query_at : (s : Parts) (n : ℕ) → 1 ≤ n → n - 1 < length s.queries → HasQuery s n
 has_query_at s n numbered less = record { numbered = numbered; within = omega (arith, numbered, less) }
 
--- if the answer with a number is accepted, it is a certificate
+-- if the answer with the number n is accepted, it is a certificate
 at_number : (s : Parts) (answers : List Answer) (n : ℕ) (a : Answer) → slice_get answers (n - 1) ≡ Some a → IsAcceptedAt s answers n → IsCertificate s n a
 at_number s answers n a is accepted = subst (λ (o : Option Answer). IsSomeAnd o (λ b. IsCertificate s n b)) is accepted
 
@@ -135,7 +135,7 @@ pub below_most : (s : Parts) (answers : List Answer) (queries : List Query) (mos
     → done < most → done < most_of s answers
 below_most s answers queries most done same is less = subst (λ (n : ℕ). done < n) (most_are s answers queries most same is) less
 
--- if the greatest number, `most`, is that of an answer and also that of a query, there are as many answers as queries
+-- if an answer and a query both have the number `most`, the greater of the two counts, there are as many answers as queries
 as_many : (queries answers most : ℕ) → most ≡ max queries answers → (1 ≤ most → (most - 1 < answers) × (most - 1 < queries)) → answers ≡ queries
 as_many queries answers most is within = elim (cases_lt 0 most) [
   | inl some ↦ (let both = within (omega (arith, some)) in omega (arith, is, some, both.0, both.1))

@@ -1,8 +1,8 @@
--- A source or a sink before and after a call, and what was written for an input that is refused. In these specs `left_old` and
--- `left_new` are the bytes left in a source before and after a call, and `held_old` and `held_new` are the bytes that a sink
--- holds. Where the type of `old` and `new` is `Option (List ℕ)`, they too are the bytes that a sink holds. Elsewhere they are the
--- source, the sink or the roster itself. Bytes are known (`Some`) where contracts can name them, as in memory. They are unknown
--- (`None`) for other sources and sinks, such as standard input and output. Nothing is claimed of unknown bytes.
+-- A source or a sink before and after a call, and what was written for an input that is refused. In these specs `left_old` and `left_new` are the
+-- bytes left in a source before and after a call, and `held_old` and `held_new` are the bytes that a sink holds. Where the type of `old` and `new` is
+-- `Option (List ℕ)`, they too are the bytes that a sink holds. Elsewhere they are the source, the sink or the roster itself. Bytes are known (`Some`)
+-- if contracts can say which bytes they are, as for a source or a sink in memory. They are unknown (`None`) for other sources and sinks, such as
+-- standard input and output. Nothing is claimed of unknown bytes.
 use Rattle.std.specs.Prelude.{◌≡◌, ◌⊎◌, ℕ, List, Bool, true, false}
 use Rattle.std.specs.{declared.option.Option.Option, Io.KnownBytes.Appends}
 use Rattle.dd_values.specs.Counts.{Rose}
@@ -31,7 +31,7 @@ change bytes faults old new =
 abbrev pub IsUntouched : {X : Type 0} → Change X → Type 0
 IsUntouched side = side.new ≡ side.old
 
--- the count of faults rose in the call, in the sense of `Rose`; this holds whenever the source or the sink failed in the call
+-- the count of faults rose in the call, or it is at its maximum, 2^64 - 1 (see `Rose`); this holds whenever the source or the sink failed in the call
 abbrev pub HasFailed : {X : Type 0} → Change X → Type 0
 HasFailed side = Rose side.faults_old side.faults_new
 

@@ -1,4 +1,4 @@
--- Certificates for membership, box questions and equality: what each form of them contains, and that an output can hold it.
+-- Certificates for membership, box questions and equality: what they contain, and, for the last two, that an output can hold them.
 use Rattle.std.proofs.{Common.◌≡◌, Common.◌≢◌, Common.ℕ, Common.Bool, Common.true, Common.List, Common.refl, lemmas.Result.IfOk-weaker}
 use Rattle.std.specs.Prelude.{◌↔◌, Result, IfOk}
 use Rattle.dd_derivation.specs.declared.step.Step.{Step}

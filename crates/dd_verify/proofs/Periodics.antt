@@ -7,7 +7,7 @@ use Rattle.dd_formula.specs.LocalRule.{LocalRule, IsRule, is_true, is_given}
 use Rattle.dd_formula.specs.{Living.Fits, lemmas.Reached.box_given}
 use Rattle.dd_boxes.specs.Boxes.{origin}
 
--- all cells that the rule reads at the origin have symbols, so the call for the rule's truth there answers with this truth, not with `None`
+-- all cells that the rule reads at the origin have symbols, so `truth`, called there, says whether the rule is true, and does not return `None`
 pub origin_told : (r : LocalRule) (t : Tile) (a : ℕ) (answer : Option Bool) → IsRule r → Fits r t → IsPeriodic t → a < r.nodes →
     answer ≡ cond (is_given r (cell origin a) (tile_look t)) (Some (is_true r (cell origin a) (tile_look t))) None →
     answer ≡ Some (is_true r (cell origin a) (tile_look t))

@@ -73,7 +73,7 @@ abbrev pub TellsCovered : LocalRule → ℕ → List (List (Option ℕ)) → Typ
 TellsCovered x a ps = (look : Look) (v : Place) (ss : List ℕ) → AreReadAt x look v a ss → are_allowed x (cells_at x a) ss ≡ true →
     (is_true x (cell v a) look ≡ false) ↔ (is_covered ps ss ≡ true)
 
--- what a list ps of minimal patterns of the node a claims
+-- what is claimed by a list ps of minimal patterns at the node a
 pub record SayMinimal (x : LocalRule) (a : ℕ) (ps : List (List (Option ℕ))) : Type 0 where
   pub tells : TellsCovered x a ps
   -- each cell that a pattern keeps is needed: without it, the pattern would forbid something that the rule allows

@@ -1,9 +1,10 @@
 //! The check of answers about the least density of a strip. A strip has periods along y and z, and no end along x. A
 //! configuration lives on the strip if it has allowed symbols, these two periods, any period along x and no shear, and obeys
 //! the rule. Each symbol has a weight, and the density of a configuration is its weight per position. A certificate has a cycle
-//! of the least density (a closed walk through the strip's transfer graph, see `dd_transfer`) and a number for each state of
-//! the graph, its potential. The potentials show that no cycle has a lower density. If no configuration lives on the strip, the
-//! certificate instead has a rank for each state, a number that falls along each edge.
+//! (a closed walk through the strip's transfer graph, see `dd_transfer`), which stands for a configuration of the least
+//! density. It also has a number for each state of the graph, its potential. The potentials show that no cycle stands for a
+//! configuration of lower density. If no configuration lives on the strip, the certificate instead has a rank for each state, a
+//! number that falls along each edge.
 ghost use Rattle.std.specs.Prelude.{◌↔◌, IsTrue, IfOk};
 ghost use Rattle.dd_strip.specs.Strips.{strip_for};
 ghost use Rattle.dd_transfer.specs.Certificates.{IsDensityCertificate, IsEmptyCertificate};

@@ -1,9 +1,9 @@
 //! Checks answers to questions about rules. A certificate is an answer with all that is needed to check it without a search.
 //! The specs say which answers are certificates, and what a certificate claims. The check makes no search for an answer, and
 //! trusts no search that was made. To check some kinds of answers, it enumerates fillings of finitely many cells: for instance,
-//! it makes its own list of the patterns that a rule forbids, and compares the two lists. The check accepts an answer exactly
-//! when the answer is a certificate and an output can hold it. An output can hold an answer if the answer's numbers and lists
-//! are within the bounds that `dd_certificate` states.
+//! it makes its own list of the patterns that a rule forbids, and compares the answer's list with it. The check accepts an
+//! answer exactly when the answer is a certificate and an output can hold it. An output can hold an answer if the answer's
+//! numbers and lists are within the bounds that `dd_certificate` states.
 //!
 //! Each position of Z^d has one or more nodes. A cell is a position together with one of its nodes. A configuration gives a
 //! symbol to each cell. A rule is a formula about a cell and the cells near it. The rule reads the cells whose symbols the
