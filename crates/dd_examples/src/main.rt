@@ -6,7 +6,8 @@
 //!
 //! A certificate is an answer that diddy's check accepts; the check makes no search. A roster is a list of engines. An engine
 //! may propose an assignment that satisfies a list of clauses, or a refutation of the list, before diddy searches for one. Each
-//! proposal is checked.
+//! proposal is checked. Each position of the lattice has one or more nodes, and a cell is a position together with one of its
+//! nodes. A topology has labelled edges between cells.
 #![tactic(auto)]
 
 mod asking;

@@ -119,8 +119,8 @@ const CHECKED: [(&str, bool); 14] = [
         "query 1 DENSITY 1/2\ncycle 2 0 1\npotentials 0 1\nquery 2 BOUND 1/2\ndenominator 2\namounts 0 1\nduals 0 1 1\n",
         true,
     ),
-    // The cycle may be run through twice, and the potentials may start from any number. The denominator may be a multiple of the
-    // bound's.
+    // The evidence for a density is a cycle and potentials (see `densities`). The cycle may be run through twice, and the same
+    // number may be added to all potentials. The denominator may be a multiple of the bound's.
     (
         "query 1 DENSITY 1/2\ncycle 4 1 0 1 0\npotentials -7 -6\nquery 2 BOUND 1/2\ndenominator 4\namounts 0 2\nduals 0 2 2\n",
         true,

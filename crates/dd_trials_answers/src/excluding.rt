@@ -1,7 +1,7 @@
-//! What accepted answers exclude from three configurations. Two of them are functions: the spike, which is a 1 among 0s, and
-//! the checkerboard. The third is a periodic configuration of the script. An answer excludes a query's goal at a position if it
-//! is a YES and the check accepts it for this query. Then no configuration that obeys the query's premise everywhere has the
-//! goal there.
+//! What accepted answers exclude, tried on three configurations. Two of them are given as functions in the code: the spike,
+//! which is a 1 among 0s, and the checkerboard. The third is a periodic configuration of the script. An answer excludes a
+//! query's goal at a position if it is a YES and the check accepts it for this query. Then a configuration that obeys the
+//! query's premise everywhere doesn't have the goal there. Another one may have it.
 ghost use Rattle.dd_checker.specs.Lifted.{IsWhole};
 
 use dd_answer::answer;
@@ -61,7 +61,8 @@ fn answers_to(alloc: Global, script: &Script) -> Result<Vec<Answer>, AllocError>
     Ok(answers)
 }
 
-// Whether this answer, given to this query, excludes the query's goal from the configuration at a position of the line.
+// Whether this answer, given to this query, excludes the query's goal at a position of the line, as the call `excludes` says
+// for this configuration.
 fn excludes_at<C: Configuration>(
     alloc: Global,
     script: &Script,

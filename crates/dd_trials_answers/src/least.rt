@@ -38,8 +38,9 @@ const NOTHING: [(&str, &str); 1] = [(
 // A script with one query, whose clauses are short.
 const ONES: &str = "%dim 1 %rule ones o=1 %least ones [1]";
 
-// Lines of answers to this script, and whether a check accepts them. The clauses that ask for a weight below 1 are, in order,
-// (1 2) and (-1 -2) for the cell, (2) for the rule, and (3 -2), (-3 2) and (-3) for the weight.
+// Lines of answers to this script, and whether a check accepts them. In the clauses that ask for a weight below 1, the variable
+// 1 says that the cell is 0, the variable 2 that it is 1, and the variable 3 that the weight is at least 1. The clauses are, in
+// order, (1 2) and (-1 -2) for the cell, (2) for the rule, and (3 -2), (-3 2) and (-3) for the weight.
 const CHECKED: [(&str, bool); 9] = [
     (
         "query 1 LEAST 1\nconf 1\nrefutation 1\nstep 0 3 4 6 0 0\n",

@@ -1,4 +1,5 @@
-// Sample scripts: the lines that answer each of them, worked out by hand for the smallest, and which words ask for a sample.
+// Sample scripts: the first lines of their answers, which are the same for all of them and were worked out by hand for the
+// smallest, and which words of a command line ask for a sample.
 use crate::outputs::assert_first_lines;
 use dd_engines::Roster;
 use dd_outside::{MemorySink, MemorySource, ReadAllFault, read_all};

@@ -79,8 +79,8 @@ const FAULTS_OF_NUMBERS: [(&[u8], &str); 9] = [
 
 // Symbols that their node doesn't allow, unknown names and repetitions in restrictions of nodes, and wrong shears. Each
 // position of Z^d has one or more nodes, and a node may be restricted to some of the symbols. A configuration with a shear
-// repeats its box upwards with a shift: each copy lies to the right of the one below it, by the shear. In a text the shear
-// stands in brackets after the periods.
+// repeats its box upwards with a shift: each copy is the one below it, moved up by the height of the box and to the right by
+// the shear. In a text the shear stands in brackets after the periods.
 const FAULTS_OF_NODES_AND_SHEARS: [(&[u8], &str); 9] = [
     (
         b"%alphabet 0 1 2 %only 0 0 2 %rule a o!=1 %empty a %conf c [1 1] 1",
