@@ -102,8 +102,8 @@ const DIFFERENCES: &[(Pair, Pair, Pair, Option<Pair>)] = &[
     ((7, 6), (1, 2), (1, 3), Some((1, 1))),
     ((5, 7), (-2, 3), (1, 5), Some((89, 105))),
     ((1, 6), (1, 2), (1, 3), Some((0, 1))),
-    // Fractions have a faster method if their numerators fit in 16 bits with a sign, and their denominators in 16 bits without
-    // one. The next two rows have the least such numerator, and the second has denominators near the greatest such one.
+    // A faster method is used if all numerators fit in 16 bits with a sign, and all denominators in 16 bits without a sign. The
+    // next two rows have the least such numerator. The second has denominators near 65535, the greatest such denominator.
     (
         (-32768, 1),
         (-32768, 1),
@@ -116,7 +116,8 @@ const DIFFERENCES: &[(Pair, Pair, Pair, Option<Pair>)] = &[
         (32766, 65531),
         Some((-70356933443584, 281436323512305)),
     ),
-    // One more than the greatest such numerator, and than the greatest such denominator.
+    // The next row has one more than the greatest such numerator, and the row after it one more than the greatest such
+    // denominator.
     ((32768, 1), (1, 1), (1, 1), Some((32767, 1))),
     ((1, 65536), (1, 65536), (1, 1), Some((0, 1))),
     // Numbers of nearly 128 bits.

@@ -1,6 +1,6 @@
 //! Symbols of periodic configurations and of fillings, and the order of periods and shears. A filling gives a symbol to each of
 //! finitely many cells. A periodic configuration repeats a box, which has the periods as its sides. With a shear, each copy of
-//! the box stands above another one, and is moved to the right by the shear.
+//! the box is moved to the right by the shear, relative to the copy below it.
 ghost use Rattle.std.specs.Prelude.{◌≡◌, IfSome};
 
 use dd_lattice::{Cell, Position, in_order};

@@ -80,9 +80,8 @@ fn described(alloc: Global, answer: &Result<Solved, SimplexFault>) -> Result<Str
 }
 
 /// A name, the number of columns, the cap on column 0, the rows, the limit on pivots, and the answer. The first dual is that of
-/// the cap. A name that begins with `first past 2^127` says which number doesn't fit. If this number arises in the value or in
-/// the costs, the line of column 0 has the same number, up to its sign, and is computed earlier (see below). In all other cases
-/// it is the first that doesn't fit.
+/// the cap. A name that begins with `first past 2^127` says which number is the first that doesn't fit. The names that speak of
+/// the value or of costs are an exception, which the comment before the last six cases explains.
 const CASES: &[(&str, u32, i64, &str, u32, &str)] = &[
     (
         "one column under its cap",
@@ -383,10 +382,10 @@ const CASES: &[(&str, u32, i64, &str, u32, &str)] = &[
         "Overflow",
     ),
     // The dictionary has a line for the objective, and a line for each basic variable. A line writes the objective, or its
-    // variable, in terms of the variables that are not basic. The costs are the coefficients of the objective. The objective
-    // is column 0. So, once column 0 is basic, the line of the objective in the dictionary has the same numbers as the line of
-    // column 0. The line of column 0 is computed first. In the next six cases no line but these two has a number that is too
-    // large.
+    // variable, in terms of the variables that are not basic. The costs are the coefficients of the objective. The objective is
+    // column 0. So, once column 0 is basic, the line of the objective in the dictionary has the same numbers as the line of
+    // column 0. The line of column 0 is computed first, so the first number that doesn't fit is in this line. In the next six
+    // cases no line but these two has a number that is too large.
     (
         "first past 2^127: the product in the value, 9 * 2^124",
         2,
@@ -396,7 +395,7 @@ const CASES: &[(&str, u32, i64, &str, u32, &str)] = &[
         "Overflow",
     ),
     (
-        "a product in the value of 7 * 2^124",
+        "a product of 7 * 2^124 in the value",
         2,
         4611686018427387904,
         "1 -7/4611686018427387904 0",
@@ -412,7 +411,7 @@ const CASES: &[(&str, u32, i64, &str, u32, &str)] = &[
         "Overflow",
     ),
     (
-        "a sum in the value of 2^126",
+        "a sum of 2^126 in the value",
         2,
         1,
         "1 -1 1/9223372036854775808",
@@ -420,7 +419,7 @@ const CASES: &[(&str, u32, i64, &str, u32, &str)] = &[
         "value 1 columns 1 9223372036854775807/9223372036854775808 duals 1 0",
     ),
     (
-        "first past 2^127: a product of costs as the cap leaves, 9 * 2^124",
+        "first past 2^127: a product in the costs as the slack of the cap leaves, 9 * 2^124",
         3,
         1,
         "1 -9/4611686018427387904 4611686018427387904 0",
@@ -428,7 +427,7 @@ const CASES: &[(&str, u32, i64, &str, u32, &str)] = &[
         "Overflow",
     ),
     (
-        "a product of costs of 7 * 2^124 as the cap leaves",
+        "a product of 7 * 2^124 in the costs as the slack of the cap leaves",
         3,
         1,
         "1 -7/4611686018427387904 4611686018427387904 0",

@@ -2,8 +2,8 @@
 use dd_tokens::tokens;
 use std::test::Fail;
 
-/// Texts, each with the lengths of its tokens and the offset at which the tokens stop. The offset is the length of the text if
-/// all of the text can be cut into tokens, blanks and comments.
+/// Texts, each with the lengths of its tokens and the offset at which the cutting stops. The offset is the length of the text
+/// if all of the text can be cut into tokens, blanks and comments.
 const CUTS: &[(&[u8], &[u32], u32)] = &[
     (b"", &[], 0),
     (b"Ap[o1q3]", &[1, 1, 1, 1, 1, 1, 1, 1], 8),

@@ -1,5 +1,7 @@
-//! Balls of the built-in topologies, drawn by hand; topologies made from edges; and which symbols a node allows. A position
-//! has one or more nodes. A cell is a position and the number of one of its nodes.
+//! Balls of the built-in topologies, drawn by hand; topologies made from edges; and which symbols a node allows. A position has
+//! one or more nodes. A cell is a position and the number of one of its nodes. A topology has labelled edges between cells, and
+//! a move by a label follows an edge with this label. The ball of radius r around a cell consists of the cells that a path of
+//! at most r edges joins to it, where edges may be taken in either direction.
 ghost use Rattle.std.specs.Prelude.{◌≡◌, pos};
 ghost use Rattle.dd_lattice.specs.Place.{place};
 ghost use Rattle.dd_topology.specs.Builtin.{link};
