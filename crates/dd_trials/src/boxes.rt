@@ -38,8 +38,8 @@ fn symbol(is_zero: bool, is_one: bool) -> Option<usize>
     }
 }
 
-/// The number of the filling that the inputs of `cells` cells give; `None` unless exactly one input of each cell is true.
-/// `values` begins with the values of these inputs, two for each cell.
+/// The number, as in `filling`, of the filling that the inputs of `cells` cells give; `None` unless exactly one input of each
+/// cell is true. `values` begins with the values of these inputs, two for each cell.
 fn filling_number(values: &[bool], cells: usize) -> Option<usize> {
     let mut number = 0usize;
     let mut weight = 1usize;

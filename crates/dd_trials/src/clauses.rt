@@ -129,7 +129,7 @@ const SIZES: [(&str, u32, u32, u32, u32); 18] = [
 ];
 
 #[test]
-fn questions_have_at_most_so_many_clauses(rt: HostRuntime) -> Result<(), Fail> {
+fn bounds_on_the_clauses_of_questions(rt: HostRuntime) -> Result<(), Fail> {
     for (script, goal, radius, period, wanted) in SIZES {
         let size = size(rt.alloc(), script, goal, radius, period)?;
         assert_eq!(rt; size, wanted, "{script} {goal} {radius} {period}");

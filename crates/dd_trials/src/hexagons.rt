@@ -75,7 +75,7 @@ fn assert_truths(rt: &impl Abort, alloc: Global, rule: &Rule) -> Result<(), Fail
 }
 
 #[test]
-fn hard_hexagons_at_both_nodes(rt: HostRuntime) -> Result<(), Fail> {
+fn hard_core_at_both_nodes(rt: HostRuntime) -> Result<(), Fail> {
     let script = script_of(rt.alloc(), &[HARD])?;
     let rule = script.rules().first().ok_or("a rule")?;
     assert_truths(&rt, rt.alloc(), rule)

@@ -1,8 +1,8 @@
 // A question about images or a conjugacy becomes pairs of automata: it asks whether the two automata of each pair agree. Here
-// both automata of a pair are applied to a configuration. A question about images is about an automaton f and a target, a rule.
-// The first automaton of its pair gives 1 to each cell at which the configuration's image under f breaks the target or has a
-// symbol that the cell's node doesn't allow, and 0 to all others. The second gives 0 to each cell. One test is about which
-// scripts are refused because a rule becomes too deep for a question about images.
+// both automata of a pair are applied to a configuration. A question about images is about an automaton f and a rule, the
+// target. The first automaton of its pair gives 1 to each cell at which the configuration's image under f breaks the target or
+// has a symbol that the cell's node doesn't allow, and 0 to all others. The second gives 0 to each cell. One test is about
+// which scripts are refused because a rule becomes too deep for a question about images.
 
 use crate::scripts::{parsed, script_of};
 use dd_automaton::apply;

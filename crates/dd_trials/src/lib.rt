@@ -2,8 +2,9 @@
 //! other or with results worked out by hand. They are about the truth of rules, the values of automata, the images of
 //! configurations, lists of minimal patterns, circuits, clauses, and bounds on the number of clauses.
 //!
-//! Each position of the lattice has one or more nodes. A cell is a position together with one of its nodes. Cells are listed
-//! in cell order: by z, then y, then x, then the node.
+//! Each position of the lattice has one or more nodes. A cell is a position together with one of its nodes. Labelled edges lead
+//! from cells to cells, and the move `x` follows the edge labelled `x`. If no such edge leaves a node, an atom such as `o.x=1`
+//! is false there. Cells are listed in cell order: by z, then y, then x, then the node.
 //!
 //! A filling gives a symbol to each cell of a list. A rule reads the cells whose symbols its formula looks at. A box question
 //! has a premise, which is a rule, and a goal. It asks whether no configuration that obeys the premise has the goal. There are

@@ -1,6 +1,6 @@
 // How an answer of each kind is written; outputs that are read back; and texts that aren't outputs. An output is what a run
-// writes: a script, the answers to its queries, and the end. In the tables, the length of a text's longest prefix that could
-// begin an output was counted by hand.
+// writes: a script, the answers to its queries, and the line `end`. In the tables, the length of a text's longest prefix that
+// could begin an output was counted by hand.
 use crate::samples::{SAMPLES, Sample, answer_of};
 use dd_certificate::{Answer, answer_line, write_answer};
 use dd_output::{CertificateFault, read_output, write_output};
@@ -229,7 +229,7 @@ fn refuses_faulty_answers(rt: HostRuntime) -> Result<(), Fail> {
 }
 
 #[test]
-fn counts_queries(rt: HostRuntime) -> Result<(), Fail> {
+fn reads_at_most_1000_answers(rt: HostRuntime) -> Result<(), Fail> {
     let alloc = rt.alloc();
     let mut text = Vec::new(alloc);
     text.extend_from_slice(b"diddy 1\nscript 0\n\n")?;

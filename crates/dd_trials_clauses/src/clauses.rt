@@ -79,7 +79,7 @@ fn wants_a_value_for_each_variable(rt: HostRuntime) -> Result<(), Fail> {
 const LONG: &[i32] = &[1, -2, 3, -4, 5, -6, 7, 0, 8, 0, 1, 9, 0];
 
 #[test]
-fn keeps_long_clauses_and_tells_those_out_of_range(rt: HostRuntime) -> Result<(), Fail> {
+fn keeps_long_clauses_and_detects_those_out_of_range(rt: HostRuntime) -> Result<(), Fail> {
     let alloc = rt.alloc();
     let cnf = cnf_of(alloc, 8, LONG)?;
     assert_eq!(rt; cnf.variables(), 8);

@@ -110,7 +110,7 @@ const HINTS_OF_ONE_STEP: &[(&[i32], bool)] = &[
     (&[0, 6, 3, 3, 4, 2, 0, 0], false),
     (&[0, 1, 6, 3, 4, 2, 0, 0], false),
     (&[0, 7, 6, 3, 4, 2, 0, 0], false),
-    // a clause that is deleted twice, and a delete of the step itself, whose clause doesn't exist yet
+    // a clause that is deleted twice, and a step that deletes its own clause, which doesn't exist yet
     (&[0, 6, 3, 4, 2, 0, 6, 6, 0], false),
     (&[0, 6, 3, 4, 2, 0, 7, 0], false),
     // the last step's clause is not empty

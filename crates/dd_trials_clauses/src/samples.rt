@@ -29,7 +29,7 @@ fn steps(
     Ok(steps)
 }
 
-/// A YES with the radius 0 and a refutation of one step, whose clause is empty.
+/// A YES, with a refutation of clauses about the box of radius 0. The refutation has one step, whose clause is empty.
 fn yes(alloc: Global) -> Result<Answer, AllocError> {
     Ok(Answer::Yes {
         radius: 0,
@@ -48,8 +48,8 @@ fn yes_both(alloc: Global) -> Result<Answer, AllocError> {
     })
 }
 
-/// A NO with a configuration of periods 2 and 1. For a query about the equality of two rules, the side says which of them the
-/// configuration obeys.
+/// A NO with a configuration of periods 2 and 1. The shear is how far the second period vector goes along the first axis. For a
+/// query about the equality of two rules, the side says which of them the configuration obeys.
 fn no(alloc: Global, side: Side, shear: u64) -> Result<Answer, AllocError> {
     Ok(Answer::No {
         side,
@@ -74,7 +74,7 @@ fn list(alloc: Global) -> Result<Answer, AllocError> {
     Ok(Answer::List { patterns })
 }
 
-/// A cycle of two states, with a potential for each.
+/// The density 1/2, with a cycle of two states of a transfer graph, and a potential for each state.
 fn density(alloc: Global) -> Result<Answer, AllocError> {
     Ok(Answer::Density {
         numerator: 1,

@@ -74,7 +74,8 @@ fn answer(alloc: Global, cnf: &Cnf) -> Result<&'static str, AllocError> {
     Ok(whole)
 }
 
-/// `found` or `refuted`, as the outcome is, if the check of assignments or of refutations confirms it, and otherwise `wrong`.
+/// `found` or `refuted`, depending on the outcome, if the check of assignments or of refutations confirms it, and otherwise
+/// `wrong`.
 fn confirmed(alloc: Global, cnf: &Cnf, outcome: Outcome) -> Result<&'static str, AllocError> {
     match outcome {
         Outcome::Found(assignment) => {
