@@ -14,6 +14,7 @@
 
 mod elimination;
 mod fixed;
+mod occurrences;
 mod propagation;
 mod reduction;
 mod resolution;
