@@ -8,7 +8,6 @@
 //!
 //! No contract depends on what is done here, since the steps, the remaining clauses and the assignment for the whole list are
 //! checked. No invariant says that the indices kept here are within their lists. So the code tests them. The tests never fail.
-use crate::occurrences::Occurrences;
 use crate::resolution::{Relation, part, push_distinct, relate, resolvent_length};
 use dd_clause::{Clause, Cnf, Literal};
 use dd_derivation::Step;
@@ -43,16 +42,6 @@ pub(crate) struct Entry {
     pub is_alive: bool,
 }
 
-impl Entry {
-    /// Whether this clause may be related to another one: the other clause is alive, has at least as many literals, and its
-    /// signature has each bit of this one's.
-    fn may_relate_to(&self, other: &Entry) -> bool {
-        other.is_alive
-            && self.signature & !other.signature == 0
-            && self.end.saturating_sub(self.start) <= other.end.saturating_sub(other.start)
-    }
-}
-
 /// A variable that was eliminated. The indices of the clauses that contained it (not of those that contained its negation) are
 /// those of `Elimination::replaced` from index `start` up to `end`.
 #[derive(Clone, Copy)]
@@ -77,13 +66,6 @@ struct Sides {
     negative: Vec<usize>,
 }
 
-/// The index of an entry, and how another entry relates to it.
-#[derive(Clone, Copy)]
-struct Related {
-    index: usize,
-    relation: Relation,
-}
-
 /// A clause list from which variables are eliminated.
 #[derive(Drop)]
 pub(crate) struct Elimination {
@@ -93,14 +75,13 @@ pub(crate) struct Elimination {
     /// The literals of all entries, one entry after the other.
     literals: Vec<Literal>,
     pub entries: Vec<Entry>,
-    occurrences: Occurrences,
+    /// For each variable, by its number, the indices of the entries that have it or its negation. Some may not be alive.
+    occurrences: Vec<Vec<usize>>,
     /// For each variable, by its number, whether it is to be tried: true at first, false once it has been tried, and true
     /// again once a clause with it or its negation has been removed.
     changed: Vec<bool>,
     /// The indices of the entries that have not been compared with the others yet.
     waiting: Vec<usize>,
-    /// The memory in which `compare` lists the entries that are related to one.
-    related: Vec<Related>,
     pub eliminated: Vec<Eliminated>,
     /// For each eliminated variable, the indices of the clauses that contained it, one variable after the other.
     replaced: Vec<usize>,
@@ -119,11 +100,33 @@ fn signature(literals: &[Literal]) -> u64 {
 }
 
 /// Whether there is an entry with this index and it is alive.
-pub(crate) fn is_alive(entries: &[Entry], index: usize) -> bool {
+fn is_alive(entries: &[Entry], index: usize) -> bool {
     match entries.get(index) {
         Some(entry) => entry.is_alive,
         None => false,
     }
+}
+
+/// `count` empty lists of indices. The list at the index that is a variable's number has room for the clauses that have the
+/// variable or its negation.
+fn empty_occurrences(
+    alloc: Global,
+    cnf: &Cnf,
+    count: usize,
+) -> Result<Vec<Vec<usize>>, AllocError> {
+    let mut rooms = vec![in alloc; 0usize; count]?;
+    for clause in cnf.clauses() {
+        for literal in clause.literals() {
+            if let Some(room) = rooms.get_mut(literal.variable as usize) {
+                *room = room.saturating_add(1);
+            }
+        }
+    }
+    let mut occurrences: Vec<Vec<usize>> = Vec::with_capacity(alloc, count)?;
+    for room in rooms {
+        occurrences.push(Vec::with_capacity(alloc, room)?)?;
+    }
+    Ok(occurrences)
 }
 
 /// How many pairs there are of a literal of the first list and a literal of the second.
@@ -152,16 +155,14 @@ impl Elimination {
     /// clause and all later ones are left out too.
     fn start(alloc: Global, cnf: &Cnf) -> Result<Elimination, AllocError> {
         let count = cnf.variables() as usize + 1;
-        let occurrences = Occurrences::with_room(alloc, cnf, count)?;
         let mut elimination = Elimination {
             variables: cnf.variables(),
             count: cnf.clauses().len() as u64,
-            literals: Vec::with_capacity(alloc, occurrences.room())?,
+            literals: Vec::new(alloc),
             entries: Vec::with_capacity(alloc, cnf.clauses().len())?,
-            occurrences,
+            occurrences: empty_occurrences(alloc, cnf, count)?,
             changed: vec![in alloc; true; count]?,
-            waiting: Vec::with_capacity(alloc, cnf.clauses().len())?,
-            related: Vec::new(alloc),
+            waiting: Vec::new(alloc),
             eliminated: Vec::new(alloc),
             replaced: Vec::new(alloc),
             steps: Vec::new(alloc),
@@ -204,8 +205,10 @@ impl Elimination {
         let end = self.literals.len();
         let literals = part(self.literals.as_slice(), start, end);
         for literal in literals {
-            self.occurrences
-                .add(self.entries.as_slice(), *literal, index)?;
+            let variable = literal.variable as usize;
+            if variable < self.occurrences.len() {
+                self.occurrences[variable].push(index)?;
+            }
         }
         self.entries.push(Entry {
             start,
@@ -237,7 +240,6 @@ impl Elimination {
             self.entries[index].is_alive = false;
             let Entry { start, end, .. } = self.entries[index];
             for literal in part(self.literals.as_slice(), start, end) {
-                self.occurrences.remove(*literal);
                 let variable = literal.variable as usize;
                 if variable < self.changed.len() {
                     self.changed[variable] = true;
@@ -246,7 +248,25 @@ impl Elimination {
         }
     }
 
-    /// Of the variables of a clause, the one that is in the fewest clauses. `None` if the clause isn't alive, or is empty.
+    /// Drops the dead clauses from the variable's occurrences. Returns how many are left.
+    fn tidy(&mut self, variable: usize) -> usize {
+        if variable >= self.occurrences.len() {
+            return 0;
+        }
+        let entries = self.entries.as_slice();
+        self.occurrences[variable].retain(|index| is_alive(entries, *index));
+        self.occurrences[variable].len()
+    }
+
+    /// The index of the entry at a place among those that have the variable or its negation.
+    fn occurrence(&self, variable: usize, place: usize) -> Option<usize> {
+        if variable < self.occurrences.len() && place < self.occurrences[variable].len() {
+            return Some(self.occurrences[variable][place]);
+        }
+        None
+    }
+
+    /// Of the variables of a clause, the one with the fewest occurrences. `None` if the clause isn't alive, or is empty.
     fn rarest_variable(&self, index: usize) -> Option<usize> {
         let entry = self.entries.get(index)?;
         if !entry.is_alive {
@@ -256,13 +276,34 @@ impl Elimination {
         let mut least = usize::MAX;
         for literal in self.literals_of(entry) {
             let variable = literal.variable as usize;
-            let count = self.occurrences.count(variable);
-            if count < least {
-                least = count;
+            if variable < self.occurrences.len() && self.occurrences[variable].len() < least {
+                least = self.occurrences[variable].len();
                 rarest = Some(variable);
             }
         }
         rarest
+    }
+
+    /// How a clause relates to another one. A clause is unrelated to itself, and to one that isn't alive.
+    fn relation(&mut self, index: usize, other: usize) -> Relation {
+        self.pay(1);
+        if index == other || index >= self.entries.len() || other >= self.entries.len() {
+            return Relation::Unrelated;
+        }
+        let entry = &self.entries[index];
+        let compared = &self.entries[other];
+        if !compared.is_alive || entry.signature & !compared.signature != 0 {
+            return Relation::Unrelated;
+        }
+        let literals = self.literals_of(entry);
+        let others = self.literals_of(compared);
+        if literals.len() > others.len() {
+            return Relation::Unrelated;
+        }
+        let pairs = pairs_of(literals, others);
+        let relation = relate(literals, others);
+        self.pay(pairs);
+        relation
     }
 
     /// Compares each waiting clause with the others, until none is waiting.
@@ -278,12 +319,17 @@ impl Elimination {
         Ok(())
     }
 
-    /// Removes the clauses that this one subsumes, and shortens those that it can shorten.
+    /// Removes the clauses that this one subsumes, and shortens those that it can shorten, until `work` is 0.
     fn compare(&mut self, alloc: Global, index: usize) -> Result<(), AllocError> {
-        self.find_related(index)?;
-        for place in 0..self.related.len() {
-            if let Some(Related { index: other, relation }) = self.related.get(place).copied() {
-                match relation {
+        let Some(variable) = self.rarest_variable(index) else {
+            return Ok(());
+        };
+        for place in 0..self.tidy(variable) {
+            if self.work == 0 {
+                break;
+            }
+            if let Some(other) = self.occurrence(variable, place) {
+                match self.relation(index, other) {
                     Relation::Unrelated => {}
                     Relation::Subsumes => self.remove(other),
                     Relation::Shortens(literal) => {
@@ -292,42 +338,6 @@ impl Elimination {
                 }
             }
         }
-        Ok(())
-    }
-
-    /// Lists the clauses to which this one is related, until `work` is 0. A clause is unrelated to itself, and to one that
-    /// isn't alive.
-    fn find_related(&mut self, index: usize) -> Result<(), AllocError> {
-        self.related.clear();
-        let Some(variable) = self.rarest_variable(index) else {
-            return Ok(());
-        };
-        self.occurrences.tidy(self.entries.as_slice(), variable);
-        let Some(entry) = self.entries.get(index) else {
-            return Ok(());
-        };
-        let literals = part(self.literals.as_slice(), entry.start, entry.end);
-        let mut work = self.work;
-        for other in self.occurrences.of(variable) {
-            if work == 0 {
-                break;
-            }
-            work = work.saturating_sub(1);
-            if let Some(compared) = self.entries.get(*other) {
-                if entry.may_relate_to(compared) && *other != index {
-                    let others = part(self.literals.as_slice(), compared.start, compared.end);
-                    work = work.saturating_sub(pairs_of(literals, others));
-                    let relation = relate(literals, others);
-                    if !matches!(relation, Relation::Unrelated) {
-                        self.related.push(Related {
-                            index: *other,
-                            relation,
-                        })?;
-                    }
-                }
-            }
-        }
-        self.work = work;
         Ok(())
     }
 
@@ -382,13 +392,15 @@ impl Elimination {
 
     /// The variables that are to be tried (see `changed`), those with the fewest pairs first. Variables that are in no clause,
     /// or that have more than `MOST_PAIRS` pairs, are left out.
-    fn candidates(&self, alloc: Global) -> Result<Vec<Candidate>, AllocError> {
+    fn candidates(&mut self, alloc: Global) -> Result<Vec<Candidate>, AllocError> {
         let mut candidates: Vec<Candidate> = Vec::new(alloc);
         for variable in 1..=self.variables {
             let place = variable as usize;
             if place < self.changed.len() && self.changed[place] {
-                let pairs = self.occurrences.pairs(place);
-                if self.occurrences.count(place) > 0 && pairs <= MOST_PAIRS {
+                let count = self.tidy(place);
+                let positive = self.count_positive(variable);
+                let pairs = positive.saturating_mul(count.saturating_sub(positive));
+                if count > 0 && pairs <= MOST_PAIRS {
                     candidates.push(Candidate { pairs, variable })?;
                 }
             }
@@ -397,17 +409,37 @@ impl Elimination {
         Ok(candidates)
     }
 
+    /// How many of the variable's occurrences are positive.
+    fn count_positive(&self, variable: u32) -> usize {
+        let literal = Literal {
+            variable,
+            positive: true,
+        };
+        let mut count = 0usize;
+        if let Some(indices) = self.occurrences.get(variable as usize) {
+            for index in indices.as_slice() {
+                if let Some(entry) = self.entries.get(*index) {
+                    if self.literals_of(entry).contains(&literal) {
+                        count = count.saturating_add(1);
+                    }
+                }
+            }
+        }
+        count
+    }
+
     /// Fills `sides` with the clauses that contain the variable and those that contain its negation.
-    fn fill_sides(&self, variable: u32, sides: &mut Sides) -> Result<(), AllocError> {
+    fn fill_sides(&mut self, variable: u32, sides: &mut Sides) -> Result<(), AllocError> {
+        self.tidy(variable as usize);
         sides.positive.clear();
         sides.negative.clear();
         let literal = Literal {
             variable,
             positive: true,
         };
-        for index in self.occurrences.of(variable as usize) {
-            if let Some(entry) = self.entries.get(*index) {
-                if entry.is_alive {
+        if let Some(indices) = self.occurrences.get(variable as usize) {
+            for index in indices.as_slice() {
+                if let Some(entry) = self.entries.get(*index) {
                     if self.literals_of(entry).contains(&literal) {
                         sides.positive.push(*index)?;
                     } else {

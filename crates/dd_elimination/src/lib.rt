@@ -14,7 +14,6 @@
 
 mod elimination;
 mod fixed;
-mod occurrences;
 mod propagation;
 mod reduction;
 mod resolution;
