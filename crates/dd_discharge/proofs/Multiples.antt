@@ -98,8 +98,8 @@ unprinted n e = by (leb n most_number) refl e
     by true l e = absurd cc
     by false l e = leb-false n most_number l
 
--- x is the fraction at index i; if joining all of xs to n gives the same number as joining the fractions from index i on to c, it also gives the same
--- number as joining x to c and then the fractions after x
+-- x is the fraction at index i; if n joined with all of xs is equal to c joined with the fractions from index i, it is also equal to c joined with x,
+-- and then with the fractions after x
 pub joined_more : (n c i : ℕ) (xs : List Exact) (x : Exact) → i < length xs → x ≡ get_or xs i x → fold joined_denominator n xs ≡ fold joined_denominator c (drop i xs)
     → fold joined_denominator n xs ≡ fold joined_denominator (joined_denominator c x) (drop (i + 1) xs)
 joined_more n c i xs x p e h = h ∙ (ap (fold joined_denominator c) (drop-cons xs i x p) ∙ (ap (λ (y : Exact). fold joined_denominator (joined_denominator c y) (drop (suc i) xs)) (sym e) ∙ ap (λ (k : ℕ). fold joined_denominator (joined_denominator c x) (drop k xs)) (next i)))
