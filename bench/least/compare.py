@@ -1,7 +1,7 @@
 #!/usr/bin/env python3
 """Times least weights of tori: compare.py PROGRAM. For each a line with the answer, the seconds of processor time of diddy's run and of its check, and
-of MiniSat and of CaDiCaL, where they are installed, on the two lists that decide: the one that is refuted and the one before it. Each time is the
-least of eight runs, or of one run if it takes more than a second. The clauses are made by the companion. The words behind PROGRAM are names of scripts
+of MiniSat and of CaDiCaL, where they are installed, on the two lists that decide: the one that is refuted and the one before it. All commands for a
+torus run in turn, twenty times, or once if diddy takes more than a second. Each time is the least. The clauses are made by the companion. The words behind PROGRAM are names of scripts
 in this file; without them all are timed."""
 import pathlib
 import resource
@@ -39,18 +39,10 @@ def timed_once(words: "list[str]", given: bytes) -> "tuple[float, bytes]":
     return after.ru_utime + after.ru_stime - before.ru_utime - before.ru_stime, done.stdout
 
 
-def timed(words: "list[str]", given: bytes = b"") -> "tuple[float, bytes]":
-    """The least processor time of eight runs, or of one run if it takes more than a second, and what the command writes."""
-    least, output = timed_once(words, given)
-    if least <= 1:
-        least = min([least] + [timed_once(words, given)[0] for _ in range(7)])
-    return least, output
-
-
-def solved(solver: str, clauses: Clauses) -> float:
-    """The processor time of a solver on a list."""
-    with written(clauses) as file:
-        return timed([solver, file])[0]
+def least_times(runs: "list[tuple[list[str], bytes]]", rounds: int) -> "list[float]":
+    """The least processor time of each command with its input, when all of them run in turn."""
+    times = [[timed_once(words, given)[0] for words, given in runs] for _ in range(rounds)]
+    return [min(own) for own in zip(*times)]
 
 
 def main() -> None:
@@ -60,12 +52,14 @@ def main() -> None:
     print("|---|---|---|---|---|" + "---|" * len(SOLVERS))
     for name in names:
         script = SCRIPTS[name].encode()
-        own, output = timed([program, "run"], script)
+        own, output = timed_once([program, "run"], script)
         line = next(line for line in output.split(b"\n") if line.startswith(b"query 1 "))[8:].decode()
-        check, _ = timed([program, "check"], output)
         torus, least = accept(script).queries[0].torus(), int(line.split()[1])
-        cells = [f"{sum(solved(solver, torus.clauses(below)) for below in (least, least + 1)):.3f}" for solver in SOLVERS]
-        print("| " + " | ".join([name, line, f"{len(output):,}", f"{own:.3f}", f"{check:.3f}", *cells]) + " |", flush=True)
+        with written(torus.clauses(least)) as refuted, written(torus.clauses(least + 1)) as last:
+            solvers = [([solver, file], b"") for solver in SOLVERS for file in (refuted, last)]
+            run, check, *solved = least_times([([program, "run"], script), ([program, "check"], output), *solvers], 20 if own <= 1 else 1)
+        sums = [first + second for first, second in zip(solved[::2], solved[1::2])]
+        print("| " + " | ".join([name, line, f"{len(output):,}", *(f"{time:.3f}" for time in (run, check, *sums))]) + " |", flush=True)
 
 
 main()
