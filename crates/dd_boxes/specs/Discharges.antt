@@ -1,6 +1,6 @@
 -- Which vectors and which weights a discharging question may have: weight is given along the vectors, and each symbol has a weight. The question asks
--- for the best lower bound on a rule's density that a discharge gives. In a discharge, each position first holds the weight of its symbols, and then
--- gives amounts of weight along the vectors.
+-- for the best lower bound that a discharge gives on the weight per position in the configurations that obey a rule. In a discharge, each position
+-- first holds the weight of its symbols, and then gives amounts of weight along the vectors.
 use Rattle.std.specs.Prelude.{ℕ, ◌≤◌, ◌≡◌, true, unsigned_abs, List, length}
 use Rattle.std.specs.{List.All, List.IsDistinct, Ordering.is_eq}
 use Rattle.dd_values.specs.Bounds.{most_weight}

@@ -1,4 +1,5 @@
-//! The goals of box questions, and how far goals read. A goal reads the cells that its rule or its automata read.
+//! The goals of box questions, and how far goals read. A goal has a rule, or two cellular automata, or neither. It reads the
+//! cells that these read. The value of an automaton at a cell is the symbol that it gives this cell.
 ghost use Rattle.std.specs.Prelude.{IfOk};
 ghost use Rattle.dd_boxes.specs.Boxes.{IsLeastRadius};
 ghost use Rattle.dd_boxes.specs.Goals.{IsGoalFor, KeepsRule};

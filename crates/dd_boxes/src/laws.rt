@@ -6,9 +6,9 @@ ghost use Rattle.dd_boxes.specs.Views.{goal_of};
 use crate::goals::Goal;
 use dd_formula::Rule;
 
-/// Does nothing. Its contract is the law of one box, for each radius: the box is the one of this radius round the origin. A
-/// filling gives each cell of a domain a symbol that the cell's node allows. The premise fits at a cell if the cell, and each
-/// cell that the premise reads there, has a symbol. A filling is admissible if the premise is true at each cell where it fits.
+/// Does nothing. Its contract is the law of one box, for the box of each radius round the origin. A filling gives each cell of
+/// a domain a symbol that the cell's node allows. The premise fits at a cell if the cell, and each cell that the premise reads
+/// there, has a symbol. A filling is admissible if the premise is true at each cell where it fits.
 ///
 /// Suppose that the goal's rule or automata, if it has any, have the dimension, the nodes and the alphabet of the premise, and
 /// that the automata are well formed. Suppose also that the box contains all cells that the goal reads at the origin, and that

@@ -7,7 +7,7 @@ use Rattle.dd_derivation.specs.declared.step.Step.{Step}
 use Rattle.dd_certificate.specs.declared.answer.{Listed.Listed, Starred.Starred, Answer.Answer}
 use Rattle.dd_certificate.specs.declared.answer.Answer.TheVariants as answer
 
--- the greatest clause number that an output can hold, and the most steps of a refutation that an output can hold
+-- the greatest clause number in an output, and the greatest number of steps of a refutation in an output
 abbrev pub most_count : ℕ
 most_count = 2 ^ 64 - 1
 

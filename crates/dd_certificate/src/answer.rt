@@ -2,7 +2,8 @@
 use dd_derivation::Step;
 use dd_values::Items;
 
-/// Which of the two rules of an equality query the configuration of a `No` obeys. The configuration breaks the other rule.
+/// An equality query asks whether two rules have the same subshift. If the answer is `Answer::No`, its configuration obeys just
+/// one of the two rules, and this says which one. The configuration breaks the other rule.
 #[derive(Clone, Copy, Debug, PartialEq, Eq)]
 pub enum Side {
     /// The query doesn't ask about equality.
@@ -101,8 +102,8 @@ pub enum Answer {
     Density {
         numerator: u64,
         denominator: u64,
-        /// The states of a cycle with this density in the strip's transfer graph. The density of a cycle is its weight, divided
-        /// by its number of edges and by the number of positions in a slice.
+        /// The states of a cycle with this density in the strip's transfer graph. The density of a cycle is the weight of the
+        /// slices that its edges add, divided by its number of edges and by the number of positions in a slice.
         cycle: Items<u64>,
         /// A number for each state. These numbers show that no cycle has a lower density.
         potentials: Items<i64>,

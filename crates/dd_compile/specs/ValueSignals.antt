@@ -1,8 +1,9 @@
 -- The signals of the cells that an automaton reads, and what the signals of its value say. Common numbers (a setting) are the dimension, the number
 -- of nodes and the size of the alphabet that several rules or automata share. Cases fit common numbers if each of their rules has these numbers, and
 -- if the symbols of the cases and the symbol `otherwise` are in the alphabet. An automaton is well formed over common numbers if there is a node, if
--- the automaton's cases, or those of all its parts, fit the numbers, and if the automaton and its parts are within the limits on instances, reach and
--- depth. An assignment, `set`, gives variables their truth values. A look-up, `look`, gives cells symbols of the alphabet.
+-- the automaton's cases, or those of all its parts, fit the numbers, and if the automaton and its parts are within the limits on instances, on reach
+-- (how far away the cells that are read may lie) and on depth. An assignment, `set`, gives variables their truth values. A look-up, `look`, gives
+-- cells symbols of the alphabet.
 use Rattle.std.specs.Prelude.{ℕ, ◌≡◌, ◌<◌, ◌==◌, Bool, true, List, Some, length, map, slice_get}
 use Rattle.std.specs.List.{Contains, list_all}
 use Rattle.dd_lattice.specs.{Cells.shifted, declared.position.Cell.Cell}

@@ -26,7 +26,8 @@ abbrev pub signal_for : Option (List Signal) → ℕ → Option Signal
 signal_for None s = None
 signal_for (Some ss) s = slice_get ss s
 
--- the signals of a cell: the list at the cell's place in the list of cells, or `None` if the wiring doesn't have the cell
+-- the signals of a cell: if the cell has the index k in the list of cells, the list of signals with the index k; `None` if the wiring doesn't have
+-- the cell
 abbrev pub signals_of : Wiring → Cell → Option (List Signal)
 signals_of w c = slice_get w.signals (position_or_len (λ d. is_eq (cell_cmp d c)) w.cells)
 

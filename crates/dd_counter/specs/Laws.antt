@@ -23,7 +23,7 @@ pub record SaysWeights (x : LocalRule) (p : Periods) (ws : List ℕ) : Type 0 wh
   -- there is at most one least weight
   pub unique : (v w : ℕ) → LeastOn x p ws v → LeastOn x p ws w → v ≡ w
   -- there is no least weight if there is no living configuration
-  pub either : (w : ℕ) → NoneOn x p → LeastOn x p ws w → ⊥
+  pub not_both : (w : ℕ) → NoneOn x p → LeastOn x p ws w → ⊥
   -- if the bound is at least 1, there is a last clause, which says that the last signal of the last row is false
   pub last : (below : ℕ) → 0 < below → let signals = last_row x p ws below in
       last_refused below signals ≡ (opposing (get_or signals (below - 1) (signal_of 0)) ∷ []) ∷ []

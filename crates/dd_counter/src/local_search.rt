@@ -120,9 +120,9 @@ impl<'a> LocalSearch<'a> {
         Ok(best)
     }
 
-    /// Makes the best change to a lighter symbol or, once the weight is below `least`, the best repair. If there is none, no
-    /// symbol changes. Then raises penalties. Returns false if the rule is true at each cell, and neither this step nor the
-    /// one before it changed a symbol.
+    /// Makes the best change to a lighter symbol or, once the weight is below `least`, the best repair (see `best_repair`). If
+    /// there is none, no symbol changes. Then raises penalties. Returns false if the rule is true at each cell, and neither
+    /// this step nor the one before it changed a symbol.
     fn make_step(&mut self, least: u64) -> Result<bool, AllocError> {
         self.step = self.step.saturating_add(1);
         let change = if self.weight >= least {

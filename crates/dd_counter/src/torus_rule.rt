@@ -11,7 +11,8 @@ use dd_pattern::{Periodic, Reads};
 use std::alloc::{AllocError, Global};
 
 /// A numbering of the cells that are given relative to the position `at`. The number of a cell is the symbol that the
-/// configuration `numbers` has there (see `numbered_box`). A cell out of range has no number.
+/// configuration `numbers` has there (see `numbered_box`). A cell has no number if a coordinate of its position, moved by `at`,
+/// exceeds 2^20 in absolute value.
 #[derive(Drop)]
 struct Around<'a, R> {
     numbers: &'a R,

@@ -72,8 +72,9 @@ pub fn broken_clauses(rule: &Rule, limit: u32) -> u32
 
 /// An upper bound on the number of clauses of a box question, or `limit + 1` if this bound is greater than `limit`. The clauses
 /// are about the positions of a box or of a torus. The bound is for the box or the torus, whichever has more positions. Along
-/// each of the premise's axes, the box has `2 * radius + 1` positions, and the torus has `period` positions. `goal` must be the
-/// number of clauses of the goal, or `limit + 1` if that number is greater than `limit`. The radius must be below 2^31.
+/// each of the d axes, where d is the premise's dimension, the box has `2 * radius + 1` positions, and the torus has `period`
+/// positions. `goal` must be the number of clauses of the goal, or `limit + 1` if that number is greater than `limit`. The
+/// radius must be below 2^31.
 pub fn question_clauses(premise: &Rule, goal: u32, radius: u32, period: u32, limit: u32) -> u32
     requires radius { radius < 2 ^ 31 }
     requires limit { limit < 2 ^ 31 }

@@ -6,10 +6,10 @@
 //! position.
 //!
 //! The certificate speaks of the transfer graph (see `dd_transfer`). A slice of the strip gives a symbol to each cell at one
-//! value of x. It weighs as much as its symbols together. A state of the graph consists of consecutive slices. An edge leads
-//! from a state to the state that results if the first slice is dropped and another slice is appended. The edge weighs as much
-//! as the appended slice. States are numbered from 0. A walk is given by the numbers of its states. Potentials and ranks are
-//! listed in the order of the states.
+//! value of x. It weighs as much as its symbols together. A state of the graph consists of consecutive slices. Where the rule
+//! allows it (see `dd_transfer`), an edge leads from a state to the state that results if the first slice is dropped and
+//! another slice is appended. The edge weighs as much as the appended slice. States are numbered from 0. A walk is given by the
+//! numbers of its states. Potentials and ranks are listed in the order of the states.
 //!
 //! If some configuration lives on the strip, the certificate is a closed walk with a potential for each state. The mean of a
 //! closed walk is its weight divided by its number of edges. The density of the walk is this mean divided by the number of

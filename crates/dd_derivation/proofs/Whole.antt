@@ -62,8 +62,8 @@ pub derives_next : (n : ℕ) (known : List (Option (List Literal))) (steps : Lis
 derives_next n known steps i s h g e r =
     derives_at n known steps i s h g ∙ rw (r, e) refl
 
--- Let `all` say that each clause is alive, and `alive` which ones are left after the deletions of earlier steps. Given the clauses that are left,
--- `is_right` says the same of the step at this index as `is_step_right`.
+-- `all` says that each clause is alive, and `alive` says which clauses are left after the deletions of earlier steps. Given the clauses that are
+-- left, `is_right` says of the step at this index what `is_step_right` says.
 pub step_right_at : (n : ℕ) (clauses : List (List Literal)) (steps : List Step) (index : ℕ) (s : Step) (all alive : List Bool) → index < length steps → s ≡ get_or steps index s → length all ≡ length clauses + length steps → ((k : ℕ) → k < length all → get_or all k false ≡ true) → ((cs : List (List Literal)) → known_of cs alive ≡ known_after_steps (known_of cs all) (take index steps)) → is_right n (known_of (clauses_before clauses (take index steps)) alive) s ≡ is_step_right n clauses steps index
 step_right_at n clauses steps index s all alive lt g l a d =
     let cs = clauses_before clauses (take index steps) in

@@ -96,7 +96,8 @@ impl<'a> FalseLiterals for After<'a> {
 
     /// A variable out of range has no mark. Such a variable occurs only in the clauses of wrong steps, and `check_step` allows
     /// earlier steps to be wrong. The step's own clause does not contain it, so it has no value until a hinted clause contains
-    /// it. The first such clause forced the literal of this variable that it contains. The negation of this literal is false.
+    /// it. Each clause hinted so far has forced a literal, so the first of them that contains the variable has forced its own
+    /// literal of this variable. The negation of this literal is false.
     fn is_false(&self, literal: Literal) -> bool {
         let variable = literal.variable as usize;
         if variable >= 1 && variable <= self.marks.len() {

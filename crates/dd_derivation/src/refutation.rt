@@ -208,7 +208,7 @@ fn check_each_with(
 }
 
 /// Whether the steps are a derivation: each step is right, and none deletes clauses. Then each assignment that satisfies the
-/// clauses also satisfies the clauses of the steps. There may be no steps. `marks`, the memory and the time are as for
+/// clauses also satisfies the clauses of the steps. The list of steps may be empty. `marks`, the memory and the time are as for
 /// `check_refutation`.
 pub fn check_derivation(cnf: &Cnf, steps: &[Step], marks: &mut Marks) -> bool
     requires variables { marks.old.variables ≡ cnf.now.variables }

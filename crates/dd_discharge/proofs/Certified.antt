@@ -35,7 +35,7 @@ coefficient_is rows n k j =
 bound_is : (rows : List Row) (n k : ℕ) → bound_at (in_fractions rows n) k ≡ whole_of (pos (row_in rows k).bound)
 bound_is rows n k = ap (λ (r : _). r.bound) (numbered.get_or-map row_of_fractions rows k no_row)
 
--- if the fraction at j is at least 0, and its denominator divides c, then the number at j in the list of numerators, over c, is this fraction
+-- if the fraction at j is at least 0, and its denominator divides c, then it is n / c, where n is the number at j in the list of numerators over c
 nonneg_at : (c : ℕ) (xs : List Exact) (j : ℕ) → j < length xs → den_of (fraction_at xs j) ∣ c → IsNonneg (fraction_at xs j)
     → IsOver c (pos (slice_index (map (numerator_over c) xs) j)) (fraction_at xs j)
 nonneg_at c xs j p d s =

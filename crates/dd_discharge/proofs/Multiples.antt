@@ -98,8 +98,8 @@ unprinted n e = by (leb n most_number) refl e
     by true l e = absurd cc
     by false l e = leb-false n most_number l
 
--- x is the fraction at index i; if joining all of xs to n gives the same number as joining the fractions from index i on to c, it also gives the same
--- number as joining x to c and then the fractions after x
+-- x is the fraction at index i; if n joined with all of xs is equal to c joined with the fractions from index i, it is also equal to c joined with x,
+-- and then with the fractions after x
 pub joined_more : (n c i : ℕ) (xs : List Exact) (x : Exact) → i < length xs → x ≡ get_or xs i x → fold joined_denominator n xs ≡ fold joined_denominator c (drop i xs)
     → fold joined_denominator n xs ≡ fold joined_denominator (joined_denominator c x) (drop (i + 1) xs)
 joined_more n c i xs x p e h = h ∙ (ap (fold joined_denominator c) (drop-cons xs i x p) ∙ (ap (λ (y : Exact). fold joined_denominator (joined_denominator c y) (drop (suc i) xs)) (sym e) ∙ ap (λ (k : ℕ). fold joined_denominator (joined_denominator c x) (drop k xs)) (next i)))
@@ -126,23 +126,23 @@ reduced_coprime q (suc zero) d e p s = refl
 reduced_coprime zero (suc (suc g)) d e p s = absurd (omega (arith, s, p))
 reduced_coprime (suc q) (suc (suc g)) d e p s = absurd (omega (arith, e, s))
 
-over_nothing : (n d : ℕ) (r : Exact) → Some r ≡ fraction_of (pos n) (pos d) → 0 < d
-over_nothing n zero r e = absurd cc
-over_nothing n (suc d) r e = omega arith
+denominator_positive : (n d : ℕ) (r : Exact) → Some r ≡ fraction_of (pos n) (pos d) → 0 < d
+denominator_positive n zero r e = absurd cc
+denominator_positive n (suc d) r e = omega arith
 
 pub own_reduction : (n d : ℕ) (r : Exact) → Some r ≡ fraction_of (pos n) (pos d) → r.den ≡ d → IsLowest (record { num = pos n; den = d })
 unfolding lowest
 own_reduction n d r e s =
-    let p = over_nothing n d r e in
+    let p = denominator_positive n d r e in
     let one : max 1 d ≡ d = omega (arith, p) in
     let is : r.den ≡ max 1 d / greatest_common n (max 1 d) = ap (λ (a : Exact). a.den) (ratio_is n d r e) in
     let whole : max 1 d / greatest_common n (max 1 d) * greatest_common n (max 1 d) ≡ max 1 d = div-mul_cancel (greatest_common n (max 1 d)) (greatest_common-is n (max 1 d)).1 in
     let coprime : greatest_common n (max 1 d) ≡ 1 = reduced_coprime (max 1 d / greatest_common n (max 1 d)) (greatest_common n (max 1 d)) (max 1 d) whole (omega arith) (sym is ∙ (s ∙ sym one)) in
     record { positive = p; coprime = subst (λ (m : ℕ). greatest_common n m ≡ 1) one coprime }
 
-pub no_reduction : (n d : ℕ) (r : Exact) → Some r ≡ fraction_of (pos n) (pos d) → (r.den ≡ d → ⊥) → IsLowest (record { num = pos n; den = d }) → ⊥
+pub other_reduction : (n d : ℕ) (r : Exact) → Some r ≡ fraction_of (pos n) (pos d) → (r.den ≡ d → ⊥) → IsLowest (record { num = pos n; den = d }) → ⊥
 unfolding lowest
-no_reduction n d r e differ l =
+other_reduction n d r e differ l =
     let p = l.positive in
     let one : max 1 d ≡ d = omega (arith, p) in
     let is : r.den ≡ max 1 d / greatest_common n (max 1 d) = ap (λ (a : Exact). a.den) (ratio_is n d r e) in

@@ -1,5 +1,5 @@
--- A rule has at most one program along given vectors, and if it has one, that program isn't too large. Both hold because only
--- one list has the cells of the ground in cell order.
+-- A rule has at most one program along given vectors, and if it has one, that program isn't too large. Both hold because only one list has the cells
+-- of the ground in cell order (by z, then y, then x, then the node).
 use Rattle.std.proofs.Common.{◌≡◌, ℕ, ◌+◌, ◌<◌, ◌≤◌, List, length, take, inl, inr, refl, sym, ap, subst, ◌∙◌, rules, arith}
 use Rattle.std.proofs.lemmas.{Bool.cases_lt, List.take_all}
 use Rattle.std.specs.Cmp.{IsTotalOrder, Rules.comparing}

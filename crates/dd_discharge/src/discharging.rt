@@ -25,7 +25,7 @@ use std::alloc::Global;
 /// patterns. The margin is that of the program's ground (see `dd_rows`). The radius and the margin are at most 3.
 ///
 /// # Errors
-/// - `Large` if the program exceeds a limit on its size (see `program_of`).
+/// - `Large` if there are too many fillings, columns or rows (see `program_of`).
 /// - `Overflow` if a number of the run is greater than 2^127 - 1 in absolute value, or if the least common denominator of the
 ///   run's result, or a numerator over this denominator, is greater than 2^40.
 /// - `Pivots` if the run has not ended after `pivots` pivots.

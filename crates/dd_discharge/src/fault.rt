@@ -9,7 +9,7 @@ use thiserror::Error;
 /// Why a discharge gave no bound.
 #[derive(Clone, Copy, Debug, PartialEq, Eq, Error)]
 pub enum DischargeFault {
-    /// The program exceeds a limit on its size.
+    /// There are too many fillings, columns or rows (see `program_of`).
     #[error("the program of the discharge is too large")]
     Large,
     /// A number of the simplex run is greater than 2^127 - 1 in absolute value, or the least common denominator of the run's

@@ -15,8 +15,8 @@ use Rattle.dd_elimination.specs.Reductions.{whole_number, whole_step, HaveSameLi
 use Rattle.dd_elimination.specs.Renaming.{new_name, renamed, renamed_step}
 use Rattle.dd_elimination.proofs.{Renaming.refutes_renaming, Names.is_renaming}
 
--- No step of a derivation deletes a clause. So each step is right, given the clauses that are known after the steps before it, and after the steps
--- their clauses are known too.
+-- In a derivation, each step is right, and none deletes a clause. So each step is right given the clauses that are known after the steps before it.
+-- After all steps, the clauses that were known at first are still known, and those of the steps are known too.
 derived_known : (n : ℕ) (known : Known) (steps : List Step) → derives_from n known steps ≡ true → (is_derived n known steps ≡ true) × (known_through known steps ≡ known ++ all_known (map (λ s. s.clause) steps))
 derived_known n known [] h = (refl, sym (append-nil known))
 derived_known n known (s ∷ steps) h =
@@ -39,7 +39,7 @@ derived_all n clauses steps h =
     let r = derived_known n (all_known clauses) steps h in
     (r.0, r.1 ∙ sym (map-append (λ c. Some c) clauses (map (λ s. s.clause) steps)))
 
--- if all clauses of the list and of the steps are alive, all of them are known
+-- if no clause of the list or of the steps is marked as deleted, all of them are known
 pub known_all : (clauses : List (List Literal)) (steps : List Step) (n : ℕ) → length clauses + length steps ≤ n → known_to clauses steps (replicate n true) ≡ all_known (clauses_before clauses steps)
 known_all clauses steps n h = all_alive (clauses_before clauses steps) n (rw (length-before clauses steps) h)
 
@@ -64,8 +64,8 @@ agree known numbers reduced before a (suc h) c k e =
     let w : whole_number numbers before (suc h) ≡ get_or numbers h 0 = rw (lt_no (length numbers) (suc h) m, lt_yes 0 (suc h) (omega arith), p) refl in
     rw w (named_says known (get_or numbers h 0) c (subst (IsNamed known (get_or numbers h 0)) r.1 (a.named h r.0)))
 
--- the search's steps with new numbers, after the steps of the elimination, refute the whole list, if the clauses of the reduced list are named as
--- they are
+-- if each clause of a list has the same literals as the known clause with its number, and some steps refute this list, then the steps of the
+-- elimination, followed by these steps with new numbers in their hints, refute the whole list
 named_refutes : (n : ℕ) (clauses : List (List Literal)) (steps : List Step) (reduced : List (List Literal)) (numbers : List ℕ) (found : List Step) → derives n clauses steps ≡ true → AreNamed (all_known (clauses_before clauses steps)) numbers reduced → refutes n reduced found ≡ true → length clauses + (length steps + length found) < 2 ^ 64 → refutes n clauses (steps ++ map (kept_step (whole_number numbers (length clauses + length steps))) found) ≡ true
 named_refutes n clauses steps reduced numbers found d a r few =
     let rename = whole_number numbers (length clauses + length steps) in

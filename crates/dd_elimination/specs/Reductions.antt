@@ -7,8 +7,8 @@ use Rattle.dd_solver.specs.searching.{Search.all_known, Marking.kept_step}
 use Rattle.dd_elimination.specs.Renaming.{AreNames, new_name, renamed, renamed_step}
 
 -- The number that a clause gets in the refutation of the whole list. `number` is its number in the refutation of the reduced list. `numbers` has the
--- new number of each clause of the reduced list. The clauses of the steps of this refutation get the numbers that follow `before`, or 2^64 - 1 if
--- that number would be greater.
+-- new number of each clause of the reduced list. The clause of the k-th step of the refutation of the reduced list gets the number `before` + k, or
+-- 2^64 - 1 if this sum is greater.
 abbrev pub whole_number : List ℕ → ℕ → ℕ → ℕ
 whole_number numbers before number =
     if nat_lt (length numbers) number then min (before + (number - length numbers)) (2 ^ 64 - 1)

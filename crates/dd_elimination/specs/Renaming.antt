@@ -1,5 +1,5 @@
--- Other numbers for variables. The variables of the reduced list are numbered from 1. Each stands for a variable of the whole list, whose number is
--- its name.
+-- Other numbers for variables. The variables of the reduced list are numbered from 1. Each has a name: the number of the variable of the whole list
+-- that it stands for.
 use Rattle.std.specs.Prelude.{ℕ, zero, suc, ◌+◌, ◌^◌, ◌<◌, ◌≤◌, nat_lt, if◌then◌else◌, List, length, map, slice_index_or}
 use Rattle.dd_clause.specs.declared.clause.Literal.{Literal}
 use Rattle.dd_derivation.specs.declared.step.Step.{Step}
@@ -10,8 +10,8 @@ pub record AreNames (names : List ℕ) (n : ℕ) : Type 0 where
   pub positive : (k : ℕ) → k < length names → 1 ≤ slice_index_or names k 0
   pub most : (k : ℕ) → k < length names → slice_index_or names k 0 ≤ n
 
--- The name of a variable. Numbers that aren't variables of the reduced list get numbers that are no names, so that different numbers become different
--- ones.
+-- The name of a variable. A number that isn't a variable of the reduced list gets a number that isn't a name, so that different numbers stay
+-- different.
 abbrev pub new_name : List ℕ → ℕ → ℕ
 new_name names zero = 0
 new_name names (suc k) = if nat_lt k (length names) then slice_index_or names k 0 else 2 ^ 32 + k

@@ -2,8 +2,8 @@
 //! list have to stand for different variables of the whole list. Each clause of the reduced list comes with the number of a
 //! clause of the whole list or of a step (see `Reduced` in the file `whole.rt`), and has to stand for a clause that has the
 //! same literals as that one. Then each refutation of the reduced list gives one of the whole list: the steps of the
-//! elimination, followed by the steps of the whole list that the refutation's steps stand for. So only the elimination is
-//! checked, and not the steps of the search, which may be many.
+//! elimination, followed by the refutation's steps with the variables of the whole list and new numbers in their hints. So only
+//! the elimination is checked, and not the steps of the search, which may be many.
 ghost use Rattle.std.specs.Prelude.{◌≡◌, true, map, IfOk};
 ghost use Rattle.dd_clause.specs.declared.clause.Literal.{Literal};
 ghost use Rattle.dd_derivation.specs.Derivations as spec;
@@ -15,7 +15,7 @@ use dd_clause::{Clause, Cnf, Literal};
 use dd_derivation::{Known, Marks, Step, check_derivation};
 use std::alloc::{AllocError, Global};
 
-/// Whether each of the literals is among the others.
+/// Whether each literal of `literals` is in `others`.
 fn are_among(others: &[Literal], literals: &[Literal]) -> bool
     ensures { result ≡ true → (l : Literal) → spec.is_among literals.now l ≡ true → spec.is_among others.now l ≡ true }
 {

@@ -1,6 +1,6 @@
-//! The search on the clauses that remain after the elimination of variables. From its result an answer for the whole list is
-//! made, and tested. If it is a refutation after an elimination by resolution, only this elimination is tested (see the file
-//! `reduction.rt`). If a test failed, the whole list would be searched, but this never happens.
+//! The search on the clauses that remain after the elimination of variables. From its result an answer for the list before the
+//! elimination is made, and tested. If it is a refutation after an elimination by resolution, only this elimination is tested
+//! (see the file `reduction.rt`). If a test failed, the list before it would be searched, but this never happens.
 ghost use Rattle.std.specs.Prelude.{◌≡◌, ◌↔◌, true, IfOk, IfSome};
 ghost use Rattle.dd_derivation.specs.Derivations.{refutes};
 ghost use Rattle.dd_solver.specs.Answers.{IsAnswer, IsFound, IsRefuted, IsSatisfiable};
@@ -18,6 +18,36 @@ use std::alloc::{AllocError, Global};
 /// If a list has more clauses than this, `solve_reduced` eliminates no variables before the search.
 const MOST_CLAUSES: usize = 200_000;
 
+/// What is done with the clauses that remain after unit propagation.
+#[derive(Clone, Copy)]
+enum Remainder {
+    /// They are searched in this style.
+    Searched(Style),
+    /// Variables are eliminated from them by resolution before they are searched. This is done only if at most half of the
+    /// clauses remain.
+    Reduced,
+}
+
+impl Remainder {
+    /// Whether the answer for `whole` is to be made from an answer for the clauses that remain.
+    fn is_used(self, whole: &Cnf, remaining: &Cnf) -> bool {
+        match self {
+            Remainder::Searched(_) => true,
+            Remainder::Reduced => remaining.clauses().len() <= whole.clauses().len() / 2,
+        }
+    }
+
+    /// An answer for the clauses that remain.
+    fn answer(self, alloc: Global, remaining: &Cnf) -> Result<Outcome, AllocError>
+        ensures { IfOk result (IsAnswer remaining.now.variables remaining.now.clauses) }
+    {
+        match self {
+            Remainder::Searched(style) => solve_with(alloc, remaining, style),
+            Remainder::Reduced => resolved_answer(alloc, remaining),
+        }
+    }
+}
+
 /// Finds an assignment that satisfies the clauses, or steps that refute them. The variables that unit propagation fixes are
 /// eliminated first, unless this propagation falsifies a clause. Then the clauses that remain are searched in the given style
 /// (see `Style` in `dd_trail`). On the clauses of questions about boxes and tori, this is faster than `solve_with` of
@@ -34,8 +64,9 @@ pub fn solve_propagated(alloc: Global, cnf: &Cnf, style: Style) -> Result<Outcom
 }
 
 /// Finds an assignment that satisfies the clauses, or steps that refute them. Variables are eliminated by resolution first,
-/// unless there are more than 200,000 clauses, or the squares of their lengths add up to 100,000,000 or more. On clauses that
-/// ask for a configuration whose weight is below a bound, this is faster than `solve` of `dd_solver`.
+/// unless there are more than 200,000 clauses, or the squares of their lengths add up to 100,000,000 or more. If unit
+/// propagation settles half of the clauses, the variables that it fixes are eliminated even before. On clauses that ask for a
+/// configuration whose weight is below a bound, this is faster than `solve` of `dd_solver`.
 ///
 /// # Errors
 /// `AllocError` if memory ran out.
@@ -51,15 +82,20 @@ pub fn solve_reduced(alloc: Global, cnf: &Cnf) -> Result<Outcome, AllocError>
 fn propagated_answer(alloc: Global, cnf: &Cnf, style: Style) -> Result<Outcome, AllocError>
     ensures { IfOk result (IsAnswer cnf.now.variables cnf.now.clauses) }
 {
-    match find_propagated(alloc, cnf, style)? {
+    match find_propagated(alloc, cnf, Remainder::Searched(style))? {
         Some(outcome) => Ok(outcome),
         None => solve_with(alloc, cnf, style),
     }
 }
 
-/// Searches the clauses that propagation leaves, and makes an answer for the whole list from the result. `None` if propagation
-/// fixes no variable or falsifies a clause. It would also be `None` if the answer were wrong, but this never happens.
-fn find_propagated(alloc: Global, cnf: &Cnf, style: Style) -> Result<Option<Outcome>, AllocError>
+/// Makes an answer for the whole list from an answer for the clauses that propagation leaves. `None` if propagation fixes no
+/// variable or falsifies a clause, or if the clauses that remain aren't used (see `Remainder`). It would also be `None` if the
+/// answer were wrong, but this never happens.
+fn find_propagated(
+    alloc: Global,
+    cnf: &Cnf,
+    remainder: Remainder,
+) -> Result<Option<Outcome>, AllocError>
     ensures { IfOk result (λ found. IfSome found (IsAnswer cnf.now.variables cnf.now.clauses)) }
 {
     let Some(fixed) = Fixed::of(alloc, cnf)? else {
@@ -68,7 +104,10 @@ fn find_propagated(alloc: Global, cnf: &Cnf, style: Style) -> Result<Option<Outc
     let Some(remaining) = fixed.remaining(alloc, cnf)? else {
         return Ok(None);
     };
-    match solve_with(alloc, &remaining.cnf, style)? {
+    if !remainder.is_used(cnf, &remaining.cnf) {
+        return Ok(None);
+    }
+    match remainder.answer(alloc, &remaining.cnf)? {
         Outcome::Found(assignment) => Ok(confirmed(cnf, fixed.extended(alloc, &assignment)?)),
         Outcome::Refuted(steps) => {
             let used = trimmed(alloc, &remaining.cnf, steps)?;
@@ -78,9 +117,22 @@ fn find_propagated(alloc: Global, cnf: &Cnf, style: Style) -> Result<Option<Outc
     }
 }
 
+/// The answer that `find_propagated` makes, if the list has at most `MOST_CLAUSES` clauses. If there is none, the answer after
+/// an elimination by resolution.
+fn reduced_answer(alloc: Global, cnf: &Cnf) -> Result<Outcome, AllocError>
+    ensures { IfOk result (IsAnswer cnf.now.variables cnf.now.clauses) }
+{
+    if cnf.clauses().len() <= MOST_CLAUSES {
+        if let Some(outcome) = find_propagated(alloc, cnf, Remainder::Reduced)? {
+            return Ok(outcome);
+        }
+    }
+    resolved_answer(alloc, cnf)
+}
+
 /// The answer that `find_reduced` makes, if the list has at most `MOST_CLAUSES` clauses. If there is none, the answer of a
 /// search on the whole list.
-fn reduced_answer(alloc: Global, cnf: &Cnf) -> Result<Outcome, AllocError>
+fn resolved_answer(alloc: Global, cnf: &Cnf) -> Result<Outcome, AllocError>
     ensures { IfOk result (IsAnswer cnf.now.variables cnf.now.clauses) }
 {
     if cnf.clauses().len() <= MOST_CLAUSES {

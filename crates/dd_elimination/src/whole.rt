@@ -74,7 +74,8 @@ fn renumber(numbers: &[u64], before: u64, hints: &mut [u64])
     }
 }
 
-/// The step with new numbers in its hints (see `new_number`). Like the steps of a trimmed refutation, it deletes nothing.
+/// The step with new numbers in its hints (see `new_number`). It deletes nothing, like the steps that `trimmed` of `dd_solver`
+/// gives.
 pub(crate) fn renumbered_step(alloc: Global, numbers: &[u64], before: u64, step: Step) -> Step
     ensures { result ≡ kept_step (whole_number numbers.now before) step }
 {

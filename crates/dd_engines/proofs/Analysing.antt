@@ -15,7 +15,8 @@ use Rattle.dd_engines.specs.propagation.Following.{alive, falses, IsForced, IsTr
 use Rattle.dd_engines.specs.propagation.Analysis.{marks, Grows, AreMarked}
 use Rattle.dd_engines.proofs.Following.{forced_has}
 
--- Let p and q say which literals are false. If they agree on the literals of a clause, the same literals of the clause are not false by p and by q.
+-- Let p and q say which literals are false. If they agree on the literals of a clause, the literals of the clause that are not false by p are those
+-- that are not false by q.
 filter_same : (p q : Literal → Bool) (c : List Literal) → ((x : Literal) → In c x → p x ≡ q x) → filter (λ x. not (p x)) c ≡ filter (λ x. not (q x)) c
 filter_same p q [] same = refl
 filter_same p q (y ∷ c) same = rw (same y (in_here c y), filter_same p q c (λ x i. same x (or_right _ _ i))) refl

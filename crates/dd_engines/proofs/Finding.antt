@@ -6,7 +6,7 @@ use Rattle.std.specs.List.{count_by, sum_by, list_any, slice_get}
 use Rattle.dd_clause.specs.{declared.clause.Literal.Literal, Clauses.is_true_under, Clauses.is_clause_true, Clauses.Satisfies}
 use Rattle.dd_values.specs.Variables.{true_variables}
 use Rattle.dd_engines.specs.Walks.{is_unsatisfied, first_unsatisfied}
-use Rattle.dd_engines.specs.walking.Truths.{true_count, is_none_at, NoneIsNone}
+use Rattle.dd_engines.specs.walking.Truths.{true_count, is_zero_at, NoneIsZero}
 
 -- a clause has no true literal exactly when its count is 0
 none_true : (p : Literal → Bool) (xs : List Literal) → eqb (count_by p xs) 0 ≡ not (list_any p xs)
@@ -25,7 +25,7 @@ none_true p (x ∷ xs) = elim (cases_Bool (p x)) [
 abbrev pub counts_of : List Bool → List (List Literal) → List ℕ
 counts_of values cs = map (true_count values) cs
 
-pub first_by_counts : (values : List Bool) (cs : List (List Literal)) (place : ℕ) → place < length cs → get_or (counts_of values cs) place 0 ≡ 0 → ((k : ℕ) → k < place → is_none_at (counts_of values cs) k ≡ false)
+pub first_by_counts : (values : List Bool) (cs : List (List Literal)) (place : ℕ) → place < length cs → get_or (counts_of values cs) place 0 ≡ 0 → ((k : ℕ) → k < place → is_zero_at (counts_of values cs) k ≡ false)
     → first_unsatisfied values cs ≡ slice_get cs place
 first_by_counts values [] place lt none before = absurd (omega (arith, lt))
 first_by_counts values (c ∷ cs) zero lt none before =
@@ -35,7 +35,7 @@ first_by_counts values (c ∷ cs) (suc place) lt none before =
     let here : is_unsatisfied values c ≡ false = sym (none_true (is_true_under (true_variables values)) c) ∙ before 0 (omega arith) in
     rw here (first_by_counts values cs place (omega (arith, lt)) none (λ k h. before (suc k) (omega (arith, h))))
 
-pub none_by_counts : (values : List Bool) (cs : List (List Literal)) → NoneIsNone (counts_of values cs) → Satisfies (true_variables values) cs
+pub none_by_counts : (values : List Bool) (cs : List (List Literal)) → NoneIsZero (counts_of values cs) → Satisfies (true_variables values) cs
 none_by_counts values [] none = All-nil (λ c. is_clause_true (true_variables values) c ≡ true)
 none_by_counts values (c ∷ cs) none =
     let here : is_unsatisfied values c ≡ false = sym (none_true (is_true_under (true_variables values)) c) ∙ none 0 in

@@ -57,8 +57,8 @@ unfolding times
 times_less zero x = omega arith
 times_less (suc h) x = times_less h (x - 1) ∙ omega arith
 
--- How a flip changes one literal of a clause. Here t and new say whether this literal is true before and after the flip. If a holds, it is the
--- literal that the flip makes true. If b holds, it is the negation of that literal.
+-- How a flip changes one literal of a clause. Here `t` and `new` say whether this literal is true before and after the flip, `a` whether it is the
+-- literal that the flip makes true, and `b` whether it is the negation of that literal.
 record Balance (t new a b : Bool) : Type 0 where
   balance : cond new 1 0 + cond b 1 0 ≡ cond t 1 0 + cond a 1 0
   few : cond t 1 0 + cond a 1 0 ≤ 1

@@ -8,7 +8,7 @@ use Rattle.dd_clause.specs.declared.clause.Literal.{Literal}
 use Rattle.dd_clause.specs.Clauses.{ClauseList, negation, IsLiteralInRange, IsClauseInRange, is_true_under, Satisfies}
 use Rattle.dd_values.specs.Variables.{true_variables}
 use Rattle.dd_engines.specs.Walks.{made_true, first_unsatisfied, values_after, NoneBefore, IsFirstOnWalk}
-use Rattle.dd_engines.specs.walking.Truths.{true_count, occurrences, more, less, changed, IsListed, NoneIsNone, IsFirstNone}
+use Rattle.dd_engines.specs.walking.Truths.{true_count, occurrences, more, less, changed, IsListed, NoneIsZero, IsFirstZero}
 use Rattle.dd_engines.specs.{walking.Walking.Walks, declared.chains.Chains.Chains}
 use Rattle.dd_engines.specs.walking.Chains.{HasChain, numbers_of, IsListingOf}
 use Rattle.dd_engines.proofs.{Places.occurrences_within, Flipping.flipped_counts}
@@ -89,12 +89,12 @@ pub record FoundClause (clauses : List (List Literal)) (values : List Bool) (cla
   pub range : IsClauseInRange (length values) clause
   pub are_false : (k : ℕ) (d : Literal) → k < length clause → is_true_under (true_variables values) (get_or clause k d) ≡ false
 
-pub found_clause : (clauses : List (List Literal)) (values : List Bool) (counts : List ℕ) (marks : List Bool) (start : ℕ) (place : ℕ) (clause : List Literal) → Walks clauses values counts marks start → IsFirstNone counts place → clause ≡ get_or clauses place clause
+pub found_clause : (clauses : List (List Literal)) (values : List Bool) (counts : List ℕ) (marks : List Bool) (start : ℕ) (place : ℕ) (clause : List Literal) → Walks clauses values counts marks start → IsFirstZero counts place → clause ≡ get_or clauses place clause
     → FoundClause clauses values clause
 found_clause clauses values counts marks start place clause walks none at =
     let within : place < length clauses = omega (arith, none.within, ap length walks.counted, length-map clauses (true_count values)) in
     let zero : get_or (counts_of values clauses) place 0 ≡ 0 = subst (λ (cs : List ℕ). get_or cs place 0 ≡ 0) walks.counted none.none in
-    let before = subst (λ (cs : List ℕ). IsFirstNone cs place) walks.counted none in
+    let before = subst (λ (cs : List ℕ). IsFirstZero cs place) walks.counted none in
     let here : clause ≡ get_or clauses place [] = read_default clauses place clause [] within at in
     record {
       first = first_by_counts values clauses place within zero before.before ∙ slice_get-get_or clauses place clause within ∙ ap (λ (c : List Literal). Some c) (sym at);
@@ -102,7 +102,7 @@ found_clause clauses values counts marks start place clause walks none at =
       are_false = none_true_in (is_true_under (true_variables values)) clause (ap (true_count values) here ∙ sym (get_or-map (true_count values) clauses place within) ∙ zero);
     }
 
-place_within : (clauses : List (List Literal)) (values : List Bool) (counts : List ℕ) (marks : List Bool) (start : ℕ) (place : ℕ) → Walks clauses values counts marks start → IsFirstNone counts place → place < length clauses
+place_within : (clauses : List (List Literal)) (values : List Bool) (counts : List ℕ) (marks : List Bool) (start : ℕ) (place : ℕ) → Walks clauses values counts marks start → IsFirstZero counts place → place < length clauses
 place_within clauses values counts marks start place walks none = omega (arith, none.within, ap length walks.counted, length-map clauses (true_count values))
 
 pub at_place : (read clauses : List (List Literal)) (place : ℕ) (clause item : List Literal) → clause ≡ item → item ≡ get_or read place item → read ≡ clauses → clause ≡ get_or clauses place clause
@@ -134,17 +134,17 @@ none_more cnf values k c reached first before j other lt at satisfying = elim (c
 pub reached_more : (cnf : ClauseList) (values : List Bool) (k : ℕ) (c : List Literal) (m : Literal) → values_after cnf k ≡ Some values → first_unsatisfied values cnf.clauses ≡ Some c → slice_get c (k % length c) ≡ Some m → values_after cnf (k + 1) ≡ Some (made_true values m)
 reached_more cnf values k c m reached first at = rw (add-one k) (rw (reached, first, at) refl)
 
-pub first_at : (cnf : ClauseList) (values : List Bool) (counts : List ℕ) (marks : List Bool) (start : ℕ) (k flips : ℕ) → Walks cnf.clauses values counts marks start → length values ≡ cnf.variables → NoneIsNone counts → k ≤ flips → values_after cnf k ≡ Some values → NoneBefore cnf k → IsFirstOnWalk cnf flips values
+pub first_at : (cnf : ClauseList) (values : List Bool) (counts : List ℕ) (marks : List Bool) (start : ℕ) (k flips : ℕ) → Walks cnf.clauses values counts marks start → length values ≡ cnf.variables → NoneIsZero counts → k ≤ flips → values_after cnf k ≡ Some values → NoneBefore cnf k → IsFirstOnWalk cnf flips values
 first_at cnf values counts marks start k flips walks long none few reached before = record {
   count = k;
   few = few;
   reached = reached;
-  satisfying = (long, none_by_counts values cnf.clauses (subst (λ (cs : List ℕ). NoneIsNone cs) walks.counted none));
+  satisfying = (long, none_by_counts values cnf.clauses (subst (λ (cs : List ℕ). NoneIsZero cs) walks.counted none));
   none_before = before;
 }
 
 -- if no earlier values satisfy the clauses, and some clause has no true literal at the end of the walk, no values on the walk satisfy the clauses
-pub none_at_end : (cnf : ClauseList) (values : List Bool) (counts : List ℕ) (marks : List Bool) (start : ℕ) (k place : ℕ) → Walks cnf.clauses values counts marks start → IsFirstNone counts place → values_after cnf k ≡ Some values → NoneBefore cnf k → NoneBefore cnf (k + 1)
+pub none_at_end : (cnf : ClauseList) (values : List Bool) (counts : List ℕ) (marks : List Bool) (start : ℕ) (k place : ℕ) → Walks cnf.clauses values counts marks start → IsFirstZero counts place → values_after cnf k ≡ Some values → NoneBefore cnf k → NoneBefore cnf (k + 1)
 none_at_end cnf values counts marks start k place walks none reached before =
     let clause = get_or cnf.clauses place [] in
     let within = place_within cnf.clauses values counts marks start place walks none in

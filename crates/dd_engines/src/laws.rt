@@ -43,8 +43,9 @@ pub fn first_asked_earlier()
 {}
 
 /// Does nothing; its contract is the law that a walk repeats itself once it is back in an earlier state: after equal states, it
-/// goes through equal states. A state consists of the values of the variables and, for each clause, the literal that the next
-/// flip would pick from the clause. If the walk reaches no satisfying assignment before it is back, it never reaches one.
+/// goes through equal states. A state consists of the values of the variables and, for each clause, the place of the literal
+/// that the next flip would pick from the clause. If the walk reaches no satisfying assignment before it is back, it never
+/// reaches one.
 pub fn walk_repeats()
     ensures same { (cnf : ClauseList) (j k : ℕ) → IsSameState cnf j k → (d : ℕ) → IsSameState cnf (j + d) (k + d) }
     ensures none { (cnf : ClauseList) (j k : ℕ) → j < k → IsSameState cnf j k → NoneBefore cnf k → (n : ℕ) → NoneBefore cnf n }

@@ -4,7 +4,7 @@
 //! mark when a search of the block finds that each of its clauses has a true literal.
 ghost use Rattle.std.specs.Prelude.{◌≡◌, ◌^◌, ◌*◌, ◌<◌, ◌+◌, ◌≤◌, length, map, slice_set, slice_index_or, All, IfOk, MatchOption};
 ghost use Rattle.dd_clause.specs.Clauses.{IsClauseInRange};
-ghost use Rattle.dd_engines.specs.walking.Truths.{IsListed, NoneWithin, IsFirstIn, NoneIsNone, IsFirstNone, changed, more, less, true_count};
+ghost use Rattle.dd_engines.specs.walking.Truths.{IsListed, NoneWithin, IsFirstIn, NoneIsZero, IsFirstZero, changed, more, less, true_count};
 ghost use Rattle.dd_engines.specs.walking.Chains.{IsLinked, HasChain, numbers_of};
 
 use crate::chains::Chains;
@@ -71,7 +71,7 @@ impl Truths {
     #[tactic(auto, using(crate::proofs::Counting::passed, crate::proofs::Counting::cleared, crate::proofs::Counting::first_of_all, crate::proofs::Counting::none_left, crate::proofs::Counting::none_listed))]
     pub fn first(&mut self) -> Option<usize>
         requires { IsListed self.old.counts.items self.old.marks.items self.old.first_block }
-        ensures first { MatchOption result (NoneIsNone self.old.counts.items) (IsFirstNone self.old.counts.items) }
+        ensures first { MatchOption result (NoneIsZero self.old.counts.items) (IsFirstZero self.old.counts.items) }
         ensures counts { self.new.counts.items ≡ self.old.counts.items }
         ensures listed { IsListed self.new.counts.items self.new.marks.items self.new.first_block }
     {

@@ -6,7 +6,7 @@ ghost use Rattle.std.specs.Prelude.{◌≡◌, ◌+◌, false, length, replicate
 ghost use Rattle.dd_clause.specs.Clauses.{IsLiteralInRange, is_true_under};
 ghost use Rattle.dd_values.specs.Variables.{true_variables};
 ghost use Rattle.dd_engines.specs.Walks.{made_true, IsFirstOnWalk, NoneBefore};
-ghost use Rattle.dd_engines.specs.walking.Truths.{NoneIsNone, IsFirstNone};
+ghost use Rattle.dd_engines.specs.walking.Truths.{NoneIsZero, IsFirstZero};
 ghost use Rattle.dd_engines.specs.walking.Walking.{Walks};
 ghost use Rattle.dd_engines.specs.walking.Chains.{IsListingOf};
 ghost use Rattle.dd_engines.specs.walking.Cycles.{IsCounted};
@@ -59,7 +59,7 @@ impl Walk {
     #[tactic(auto, using(crate::proofs::Walking::looked_walks))]
     fn first(&mut self, clauses: &[Clause]) -> Option<usize>
         requires { Walks clauses.now self.old.values.items self.old.truths.counts.items self.old.truths.marks.items self.old.truths.first_block }
-        ensures first { MatchOption result (NoneIsNone self.new.truths.counts.items) (IsFirstNone self.new.truths.counts.items) }
+        ensures first { MatchOption result (NoneIsZero self.new.truths.counts.items) (IsFirstZero self.new.truths.counts.items) }
         ensures values { self.new.values.items ≡ self.old.values.items }
         ensures landmark { self.new.landmark ≡ self.old.landmark }
         ensures walks { Walks clauses.now self.new.values.items self.new.truths.counts.items self.new.truths.marks.items self.new.truths.first_block }

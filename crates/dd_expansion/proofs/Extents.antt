@@ -69,7 +69,7 @@ adjacent_near es a b short (e, there, ways) =
       | inr back ↦ subst (λ d. extent b.position ≤ extent d.position + 4) (sym back.1) (omega (arith, extent_back b.position e.offset, small))
     ]
 
--- the cells of a ball lie at most four times its radius further from the origin than its centre
+-- the cells of a ball of radius r lie at most 4r further from the origin than its centre
 pub in_ball_near : (es : List Edge) (c : Cell) (r : ℕ) (d : Cell) → are_short 4 es ≡ true → IsInBall es c r d → extent d.position ≤ extent c.position + 4 * r
 in_ball_near es c zero d short is = let same : extent d.position ≡ extent c.position = ap (λ e. extent e.position) is in omega arith
 in_ball_near es c (suc r) d short there =

@@ -1,6 +1,6 @@
-pub mod EqualNodes
+pub mod EqualSizes
 pub mod Extents
-pub mod Nodes
+pub mod InstanceCounts
 pub mod Parts
 pub mod Sizes
 pub mod Unions

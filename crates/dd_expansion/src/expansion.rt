@@ -83,7 +83,7 @@ impl<'a> Scope<'a> {
 
     /// The expansion of a formula. Its instances are taken from the budget.
     #[cycle(expand)]
-    #[tactic(auto, using(std::proofs::lemmas::Grind::common_steps, crate::proofs::Nodes::expansion_layers))]
+    #[tactic(auto, using(std::proofs::lemmas::Grind::common_steps, crate::proofs::InstanceCounts::expansion_layers))]
     fn expand(&self, formula: &Formula, budget: &mut u32) -> Result<Expanded, ExpansionFault>
         requires fits { formula_fits self.now.topology.now self.now.symbols formula.now (length self.now.env.now) ≡ true }
         requires depth { depth formula.now + length self.now.env.now ≤ 65 }

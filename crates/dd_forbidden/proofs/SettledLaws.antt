@@ -1,4 +1,4 @@
--- What is listed once the symbols of the first cells settle the rule's truth.
+-- What is listed when the symbols of the first cells settle the rule's truth.
 use Rattle.std.proofs.Common.{◌≡◌, ◌<◌, ◌≤◌, ◌+◌, ℕ, zero, suc, Bool, true, false, cond, List, [], ◌∷◌, ◌++◌, refl, sym, ◌∙◌, ap, subst, arith}
 use Rattle.std.proofs.lemmas.List.{append_assoc, append-nil, Elements.All-push}
 use Rattle.std.specs.List.{flat_map, range_with_len}

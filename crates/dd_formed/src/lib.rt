@@ -1,6 +1,7 @@
 //! Whether a formula may become a rule, and whether an automaton is well formed. Each variable, label, node and symbol in the
-//! formula must exist. A label is the name of a move from one cell to another. The formula must be within the limits on its
-//! terms, its balls and its depth. `Rule::new` tests the limits on a rule's instances and reach.
+//! formula must exist. A topology has labelled edges between cells, and a move from one cell to another follows the edge with a
+//! given label. The formula must be within the limits on its terms, its balls and its depth. `Rule::new` tests the limits on a
+//! rule's instances and reach.
 //!
 //! An automaton is given by a default symbol and a list of cases, each of them a rule with a symbol; or it is the composition
 //! of two automata. All its rules must have a given dimension, number of nodes and number of symbols. There must be at least

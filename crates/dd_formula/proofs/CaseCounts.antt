@@ -1,4 +1,4 @@
--- The counts of an automaton by cases, from the formulas of the cases. If no rule can be made from one of these formulas, the automaton is refused.
+-- The counts of an automaton by cases, from the formulas of the cases. If one of these formulas is refused as a rule, the automaton is refused.
 use Rattle.std.proofs.Common.{◌≡◌, ◌<◌, ◌≤◌, ◌+◌, ℕ, Bool, true, false, List, length, map, take, get_or, ap, sym, ◌∙◌, arith}
 use Rattle.std.proofs.lemmas.{Bool.and_from, Bool.lt-ltb, List.Elements.All-weaker}
 use Rattle.std.proofs.lemmas.List.Folds.{list_all-map, list_all_at}

@@ -1,5 +1,5 @@
--- A rule that is true at each cell of the fundamental box is true at every cell. The cell with the least number at which a rule is false is the first
--- one in cell order. The cells of the box are numbered from 0, in the order in which their symbols are listed.
+-- A rule that is true at each cell of the fundamental box is true at every cell. Of the cells of the box at which a rule is false, the one with the
+-- least number is the first in cell order. The cells of the box are numbered from 0, in the order in which their symbols are listed.
 use Rattle.std.proofs.Common.{◌≡◌, ℕ, ◌<◌, length, true, false, ap, sym, ◌∙◌, arith}
 use Rattle.dd_lattice.specs.{Place.Place, Place.moved, Cells.cell, Cells.shifted, declared.position.Cell.Cell}
 use Rattle.dd_pattern.specs.{Periods.base_of, Tile.Tile, Tile.IsTile, Tile.tile_index, Tile.tile_look, Tile.cell_in}

@@ -30,7 +30,8 @@ module _ (r : LocalRule) (some : 1 ≤ r.symbols) where
       let found = some_fails (λ e. list_all is_near (leaf_cells e)) (expansion_at r) r.nodes h in
       record { node = found.node; exists = found.exists; far = sym (near_leaves found.node) ∙ found.fails }
 
-  -- if the rule is within the limit on instances, then a fault that is right for the cells that its expansions read is right for the rule
+  -- if the rule is within the limit on instances, then `Memory` is right for the rule, and `Reach` is right if the cell of some leaf lies too far
+  -- away
   pub refused_from : (fault : RuleFault) → IsSmall r → (fault ≡ Memory) ⊎ ((fault ≡ Reach) × (list_all (λ e. list_all is_near (leaf_cells e)) (at_nodes (expansion_at r) r.nodes) ≡ false)) →
       IsRuleRefusal r fault
   refused_from fault small (inl is) = subst (IsRuleRefusal r) (sym is) tt

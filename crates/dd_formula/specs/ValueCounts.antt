@@ -50,7 +50,7 @@ valued_step n (Automaton-F.Composed f g) =
 abbrev pub value_clauses : ℕ → Automaton → ℕ → ℕ
 value_clauses n f = (fold-Automaton Valued (valued_step n) f).clauses
 
--- the number of clauses that say whether two automata differ at a node: those of both values, for each symbol those of a gate over two signals, and
+-- the number of clauses that say whether two automata differ at a node: those of both values; for each symbol, those of a gate over two signals; and
 -- those of a gate over all these gates
 abbrev pub differ_at : ℕ → Automaton → Automaton → ℕ → ℕ
 differ_at n f g a = value_clauses n f a + value_clauses n g a + n * gate_clause_count 2 + gate_clause_count n

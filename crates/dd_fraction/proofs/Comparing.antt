@@ -15,7 +15,7 @@ pub whole_below : (a b c d : ℕ) → 0 < b → 0 < d → a / b < c / d → a * 
 whole_below a b c d y z h =
     below_lem a b c d (a / b) (c / d) (a % b) (c % d) z (div-add-mod' a b) (div-add-mod' c d) (mod_below a b y) h
 
--- if a / b and c / d have the same whole part q, both cross products are q · b · d plus a product with a remainder
+-- if a / b and c / d have the same whole part q, and the remainders r and s, the cross products are q · b · d + d · r and q · b · d + b · s
 rest_lem : (a b c d q r s : ℕ) → q * b + r ≡ a → q * d + s ≡ c
     → (a * d ≡ q * b * d + d * r) × (c * b ≡ q * b * d + b * s)
 rest_lem a b c d q r s e f = (omega (arith, ap (λ (x : ℕ). x * d) e), omega (arith, ap (λ (x : ℕ). x * b) f))

@@ -105,7 +105,7 @@ rows_push edges n k levels x rows l e j lt = elim (cases_lt j (length levels)) [
       get_or_push levels x [] j (omega arith) ∙ (e ∙ ap (row edges n) (sym f))
 ]
 
--- what holds of each item of a list and of a new item holds of each item once the new one is appended
+-- if a property holds of each item of a list and of a new item, it holds of each item of the list after the new one is appended
 pub each_push : (P : ℕ → ℕ → Type 0) (xs : List ℕ) (i y : ℕ) → length xs ≡ i → ((v : ℕ) → v < i → P v (get_or xs v 0)) → P i y → (v : ℕ) → v < i + 1 → P v (get_or (xs ++ y ∷ []) v 0)
 each_push P xs i y len each here v lt = elim (cases_lt v i) [
   | inl below ↦ subst (P v) (sym (get_or_append_left xs (y ∷ []) 0 v (omega arith))) (each v below)

@@ -13,7 +13,7 @@ IsPath g u [] v = u ≡ v
 IsPath g u (s ∷ ss) v = (next_of g u (s % g.slices) ≡ Some s) × IsPath g s ss v
 
 -- the weight of a walk whose edges lead to these states, one after another. An edge weighs what its slice weighs, and its slice is the last slice of
--- the state to which it leads. The number of a state's last slice is the state's number modulo the number of slices.
+-- the state to which it leads. The number of a state's last slice is the state's number modulo the number of different slices.
 abbrev pub weight_of : Transfer → List ℕ → ℕ
 weight_of g [] = 0
 weight_of g (s ∷ ss) = weight_at g (s % g.slices) + weight_of g ss

@@ -15,7 +15,7 @@ use dd_transfer::Graph;
 use dd_values::MOST_NUMBER;
 
 /// Whether an edge leads from `from` to `to`. The slice of each edge to `to` is the last slice of `to`, so only this slice is
-/// tried. Its number is `to` modulo the number of slices.
+/// tried. Its number is `to` modulo the number of different slices.
 fn leads(graph: &Graph, from: u32, to: u32) -> bool
     ensures value { IsTrue result ↔ (next_of graph.now from (to % graph.now.slices) ≡ Some to) }
     ensures kept { IsTransfer graph.now }

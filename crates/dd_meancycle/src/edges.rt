@@ -1,5 +1,5 @@
 //! The edges of a transfer graph as a list. A window is a state followed by a slice, and may be an edge. Its number is the
-//! state's number times the number of slices, plus the slice's number.
+//! state's number times the number of different slices, plus the slice's number.
 ghost use Rattle.std.specs.Prelude.{◌≡◌, ◌*◌, ◌<◌, ◌++◌, IfOk, OnOk};
 ghost use Rattle.std.specs.Option.{option_to_list};
 ghost use Rattle.dd_meancycle.specs.table.Lists.{edge_at, AreEdges};

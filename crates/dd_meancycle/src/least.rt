@@ -58,7 +58,7 @@ fn signed(alloc: Global, potentials: &[u64]) -> Result<Vec<i64>, AllocError>
     Ok(numbers)
 }
 
-/// The result `mean`, but with the cycle given by its states, and with potentials as signed numbers.
+/// The same as `mean`, but with the cycle given by its states, and with potentials as signed numbers.
 fn in_states(alloc: Global, mean: EdgeMean) -> Result<Mean, AllocError>
     requires { IsSmallMean mean }
     ensures { IfOk result (λ m. IsInStates mean m) }

@@ -12,7 +12,7 @@ use Rattle.dd_faults.specs.{Names.missing, Names.number_in, Commands.case_faults
 use Rattle.dd_faults.specs.lemmas.Nothing.{number_below}
 use Rattle.dd_known.specs.Sound.{IsSound}
 use Rattle.dd_formula.specs.{Automata.IsAutomaton, Automata.counted, ByCases.numbers_over, ByCases.IsCaseOver, ByCases.IsCasesRefusal}
-use Rattle.dd_formula.specs.{Compositions.AreAutomata, Compositions.OverBoth, Compositions.IsCompositionFault, lemmas.CasesLaws.passes_one}
+use Rattle.dd_formula.specs.{Compositions.AreAutomata, Compositions.OverBoth, Compositions.IsCompositionFault, lemmas.CasesLaws.as_composition_fault}
 use Rattle.dd_formula.specs.declared.{fault.RuleFault.RuleFault, automaton.Automaton.Automaton}
 use Rattle.dd_meanings.proofs.{Nothing.parts, Nothing.none_at, NameLaws.is_new, WellFormed.is_formula, SizeLaws.fault_refuses}
 use Rattle.dd_meanings.proofs.MadeLaws.{cases_made, composition_made}
@@ -55,7 +55,7 @@ module _ (x : Context) (called : Word) (cs : List Case) (default : Name) (sound 
       })
 
 pub cases_refused : (x : Context) (whole : Automaton) (e : RuleFault) → IsCasesRefusal x.known.setting.topology.nodes (counted whole) e → Refuses (refusal_of e) (first_fault (automaton_faults x whole))
-cases_refused x whole e h = fault_refuses x.known.setting.topology.nodes (counted whole) e (passes_one x.known.setting.topology.nodes (counted whole) e h)
+cases_refused x whole e h = fault_refuses x.known.setting.topology.nodes (counted whole) e (as_composition_fault x.known.setting.topology.nodes (counted whole) e h)
 
 -- ---- compositions
 

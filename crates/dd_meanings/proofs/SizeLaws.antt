@@ -5,7 +5,7 @@ use Rattle.std.specs.List.{list_all, range_with_len}
 use Rattle.dd_expansion.specs.Leaves.{instances}
 use Rattle.dd_formula.specs.LocalRule.{LocalRule, most_instances, expansion_at, reads_at, is_near, IsSmall, IsRule}
 use Rattle.dd_formula.specs.{Refusals.IsRuleRefusal, Compositions.IsCompositionFault, Automata.Counted, Automata.is_few}
-use Rattle.dd_formula.specs.{declared.fault.RuleFault.RuleFault, lemmas.CasesLaws.refused, lemmas.CasesLaws.passes_one}
+use Rattle.dd_formula.specs.{declared.fault.RuleFault.RuleFault, lemmas.CasesLaws.refused, lemmas.CasesLaws.as_composition_fault}
 use Rattle.dd_faults.specs.Order.{first_fault, Refuses}
 use Rattle.dd_meanings.specs.Definitions.{rule_counts, count_faults, rule_faults, refusal_of}
 
@@ -28,7 +28,7 @@ module _ (r : LocalRule) where
 
   -- a rule is refused for the first limit that its counts exceed, or because memory ran out
   pub rule_refuses : (e : RuleFault) → IsRuleRefusal r e → Refuses (refusal_of e) (first_fault (rule_faults r))
-  rule_refuses e h = fault_refuses r.nodes (rule_counts r) e (passes_one r.nodes (rule_counts r) e (refused r (rule_counts r) (λ a. omega arith) (λ a far. far) e small_is_few h))
+  rule_refuses e h = fault_refuses r.nodes (rule_counts r) e (as_composition_fault r.nodes (rule_counts r) e (refused r (rule_counts r) (λ a. omega arith) (λ a far. far) e small_is_few h))
 
   pub rule_passes : IsRule r → rule_faults r ≡ []
   rule_passes h = rw (small_is_few h.small, range_from (λ a. list_all is_near (reads_at r a)) 0 r.nodes (λ a low high. h.short a (omega arith))) refl

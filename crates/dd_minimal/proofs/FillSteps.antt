@@ -94,5 +94,3 @@ leaf r a m e (c ∷ cs) start now truth says below none same is = absurd (omega 
 pub known_leaf : (r : LocalRule) (m : ℕ) (rest : List Cell) (o : Outcome) → length rest ≡ 0 → o ∷ [] ≡ map (known_outcome r rest o) (words m (length rest))
 known_leaf r m [] o none = refl
 known_leaf r m (c ∷ cs) o none = absurd (omega (arith, none))
-
--- The lemma `taken_off` of `dd_values` says that the symbols are the old ones again after an appended symbol is removed.

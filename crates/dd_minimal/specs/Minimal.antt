@@ -27,8 +27,8 @@ thinned enough (s ∷ ss) =
     let first = cond (enough (None ∷ whole ss)) None (Some s) in
     first ∷ thinned (λ p. enough (first ∷ p)) ss
 
--- Fillings are taken in order. A filling that agrees with a pattern of `before`, the patterns listed so far, is skipped. Every
--- other filling is thinned by `thin` to a pattern, and this pattern is listed.
+-- Fillings are taken in order. A filling that agrees with a pattern of `before`, the patterns listed so far, is skipped. Each of the others is
+-- thinned by `thin` to a pattern, and this pattern is listed.
 abbrev pub listed : (List ℕ → List (Option ℕ)) → List (List (Option ℕ)) → List (List ℕ) → List (List (Option ℕ))
 listed thin before [] = []
 listed thin before (ss ∷ more) =

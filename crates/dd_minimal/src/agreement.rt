@@ -7,9 +7,9 @@ use dd_formula::Rule;
 use dd_pattern::Filling;
 
 /// Whether the filling agrees with the pattern, which means that it has the pattern's symbol at each cell that the pattern
-/// keeps. If the pattern is minimal, the rule is false under every filling with allowed symbols that agrees with it. The
-/// pattern must belong to a node of the rule and have an entry for each cell that the rule reads there. The filling's domain
-/// must be these cells. The parameter `_rule` is there for the contract. The call allocates nothing.
+/// keeps. If the pattern is minimal, it forces the rule to be false under every filling with allowed symbols that agrees with
+/// it. The pattern must belong to a node of the rule and have an entry for each cell that the rule reads there. The filling's
+/// domain must be these cells. The parameter `_rule` is there for the contract. The call allocates nothing.
 pub fn forces(_rule: &Rule, partial: &Partial, filling: &Filling) -> bool
     requires partial { IsPartialOf _rule.now partial.now }
     requires filling { FillsReads _rule.now partial.now filling.now }

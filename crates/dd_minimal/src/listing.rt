@@ -1,5 +1,5 @@
-//! The minimal list. The fillings that break the rule are taken in lexicographic order. Marked fillings are skipped. Every
-//! other filling is thinned to a pattern: its cells are taken one by one, and a cell is left out if the pattern without it is
+//! The minimal list. The fillings that break the rule are taken in lexicographic order. Marked fillings are skipped. Each of
+//! the others is thinned to a pattern: its cells are taken one by one, and a cell is left out if the pattern without it is
 //! still forbidden. The pattern is listed, and all fillings that agree with it are marked.
 ghost use Rattle.std.specs.Prelude.{◌≡◌, ◌<◌, ◌^◌, length, map, IfOk};
 ghost use Rattle.std.specs.List.{All};

@@ -1,5 +1,5 @@
--- The value that is read, and the place where reading stops, don't depend on the text that has to follow. The second part of this file is about
--- loops that read a given number of values.
+-- Some readers are given the text that has to follow what they read. The value that is read, and the place where reading stops, don't depend on this
+-- text. The second part of this file is about loops that read a given number of values.
 use Rattle.std.proofs.Common.{◌≡◌, ℕ, suc, ◌+◌, ◌-◌, ◌*◌, ◌<◌, List, [], ◌∷◌, ◌++◌, length, Result, Ok, Err, Bool, true, false, cond, refl, sym, ap, ◌∙◌, append_assoc, arith}
 use Rattle.std.specs.Prelude.{◌==◌, ◌||◌, ℤ, Option}
 use Rattle.dd_certificate.specs.Bounds.{most_number}

@@ -10,7 +10,7 @@ use Rattle.dd_certificate.specs.declared.answer.Answer.TheVariants as answer
 abbrev pub body_text : Answer → List ℕ
 body_text a = verdict_text a ++ further_lines a
 
--- the byte with which these lines begin
+-- the byte with which the first of these lines begins
 abbrev pub first_of : Answer → ℕ
 first_of answer.Inside = 73
 first_of (answer.Outside place) = 79
@@ -45,7 +45,7 @@ first_is (answer.Broken part periods shear symbols) good = (drop 1 (body_text (a
 first_is (answer.Least weight symbols steps) good = (drop 1 (body_text (answer.Least weight symbols steps)), refl)
 first_is (answer.Nothing steps) good = (drop 1 (body_text (answer.Nothing steps)), refl)
 
--- an output can hold the answer, and its lines begin with this byte
+-- an output can hold the answer, and the first line of the answer's `body_text` begins with this byte
 abbrev pub Row : ℕ → Answer → Type 0
 Row = Keyed IsWritable first_of
 

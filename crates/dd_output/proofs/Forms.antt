@@ -24,7 +24,7 @@ pub record Good {A : Type 0} (F : A → Type 0) (t : A → List ℕ) (f : Form A
   pub fits : F value
   pub is : f.least ≡ t value
 
--- the same reader, with the texts of more values as completed texts
+-- the same reader; a completed text may be the text of any value of which G holds
 pub wider : {A : Type 0} (F G : A → Type 0) (t : A → List ℕ) (r : List ℕ → Read A) → ReadsText F t r → ((x : A) → F x → G x) → Reads F t (IsText G t) r
 wider F G t r law more = same_reads F t (IsText F t) r F t (IsText G t) law (λ x good. (refl, good)) (λ x good. (refl, good)) (λ text a. (a.0, more a.0 a.1, a.2))
 

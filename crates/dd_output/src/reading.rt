@@ -23,7 +23,7 @@ use dd_certificate::{Answer, push_decimal};
 use dd_values::{Items, MOST_COMMANDS, MOST_SCRIPT};
 use std::alloc::Global;
 
-/// The greatest length, in bytes, of an output that a check reads. `read_output` itself has no such limit.
+/// The greatest length, in bytes, of an output whose answers `dd_session` checks. `read_output` itself has no such limit.
 pub const MOST_OUTPUT: usize = 268_435_456;
 
 /// The text before an answer: `query`, a space, the query's number, and a space. The number is the index plus 1.

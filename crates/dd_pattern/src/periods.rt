@@ -81,8 +81,8 @@ impl PartialOrd for Periods {
     }
 }
 
-/// How many values a period or the shear can have on an axis: `most` if the axis is one of the first `dim`, else 1. The axes
-/// are numbered from 0.
+/// How many values the period of an axis can have: `most` if the axis is one of the first `dim`, else 1. The values of the
+/// shear are counted in the same way, with axis 1. The axes are numbered from 0.
 fn most_along(dim: u32, axis: u32, most: u32) -> u32
     ensures { result ≡ most_along dim axis most }
 {

@@ -13,7 +13,7 @@ use Rattle.dd_problem.specs.lemmas.BoxShows.{box_shows, shown_decides}
 use Rattle.dd_problem.proofs.BoxInputs.{radius_small, box_made, box_ascends, all_box_nodes, box_is_problem, box_goal_wired, box_inputs, box_few}
 use Rattle.dd_values.specs.lemmas.Results.{if_ok}
 
--- the count of the question's clauses is at most two million
+-- the upper bound on the number of the question's clauses is at most two million
 abbrev pub IsFew : LocalRule → GoalOf → ℕ → Type 0
 IsFew x g n = question_clauses x g (volume (centred x.dimension n)) ≤ most_clauses
 

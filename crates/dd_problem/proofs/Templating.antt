@@ -55,7 +55,8 @@ same_reads n m w x d rule node near ok full more =
     row_full n m x.symbols (is_in_range (moved c.position v)) (signals_of w (shifted v c)) s more (full (shifted v c)) (ok (shifted v c)))
     h)
 
--- `are_reads_wired`, asked for m variables, tells whether each of the rule's leaves at d has its wire, and the wire's variable is one of the first n
+-- if the inputs are among the first n variables and n ≤ m, `are_reads_wired m` tells whether the rule is wired at d with the first n variables
+-- (`is_wired_at`)
 pub reads_tell : (n m : ℕ) (w : Wiring) (x : LocalRule) (d : Cell) (b r : Bool) → IsRule x → d.node < x.nodes → extent d.position ≤ 1048560 → AreInputs n w → HasAllSymbols x.symbols w → n ≤ m →
     r ≡ are_reads_wired m w x d → r ≡ b → is_wired_at w n x d ≡ b
 reads_tell n m w x d b r rule node near ok full more said told =

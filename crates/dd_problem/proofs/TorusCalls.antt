@@ -21,7 +21,7 @@ use Rattle.dd_problem.specs.lemmas.TorusShows.{torus_shows}
 use Rattle.dd_problem.proofs.NearCells.{near_ascends, near_nodes as near_nodes_of}
 use Rattle.dd_problem.proofs.TorusInputs.{numbers_tile, number_is, torus_values, torus_is_problem, torus_goal_wired}
 
--- the count of the question's clauses is at most two million
+-- the upper bound on the number of the question's clauses is at most two million
 abbrev pub IsFew : LocalRule → GoalOf → Periods → Type 0
 IsFew x g periods = question_clauses x g (periods_volume periods) ≤ most_clauses
 

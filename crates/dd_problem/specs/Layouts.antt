@@ -35,7 +35,7 @@ box_index x n c = index_in (centred x.dimension n) c.position * x.nodes + c.node
 abbrev pub box_layout : LocalRule → ℕ → Layout
 box_layout x n = record { has = is_box_cell x n; index = box_index x n; places = box_cells x n; inputs = in_turn x.symbols (box_cells x n) }
 
--- a tile with an empty list of symbols, which serves to number the cells of the torus
+-- the dimension, periods and nodes of the torus, as a `Tile` without symbols; it serves to number the torus's cells
 abbrev pub torus : LocalRule → Periods → Tile
 torus x periods = tile x.dimension periods x.nodes []
 

@@ -92,7 +92,7 @@ pub flat_map_next : {X Y : Type 0} (f : X → List Y) (xs : List X) (i : ℕ) (d
 flat_map_next f xs i d below =
     ap (flat_map f) (take_more xs i d below) ∙ (flat_map-append f (take i xs) (get_or xs i d ∷ []) ∙ ap (λ ys. flat_map f (take i xs) ++ ys) (append-nil (f (get_or xs i d))))
 
--- if `next` is full, and the symbol n gives one more list, then there are too many lists with all symbols below m, where m is above n
+-- if `next` is full, and the symbol n gives one more list, then there are too many lists once all symbols below m have been tried, where m is above n
 pub extended_large : (x : LocalRule) (q : List ℕ → Bool) (a : ℕ) (ss new : List ℕ) (n m most : ℕ) (old next : List (List ℕ)) → n < m → rule_allows x a n ≡ true → new ≡ ss ++ n ∷ [] →
     q new ≡ true → next ≡ old ++ extended_below x q a ss n → length next ≡ most → most < length (old ++ extended_below x q a ss m)
 extended_large x q a ss new n m most old next below allowed is kept so_far full =

@@ -23,8 +23,8 @@ words x (c ∷ cs) = flat_map (λ s. map (λ ss. s ∷ ss) (words x cs)) (allowe
 abbrev pub is_true_if_it_fits : LocalRule → Look → Cell → Bool
 is_true_if_it_fits x look c = not (place_fits x look c) || is_true x c look
 
--- Whether `is_true_if_it_fits` holds at each of the cells. If there are no more symbols than cells, it holds at any other cell as well, since that
--- cell has no symbol.
+-- Whether `is_true_if_it_fits` holds at each of the cells. If ss has at most as many items as cs, it holds at any other cell as well, since that cell
+-- has no symbol.
 abbrev pub is_admissible : LocalRule → List Cell → List ℕ → Bool
 is_admissible x cs ss = list_all (is_true_if_it_fits x (look_of cs ss)) cs
 

@@ -4,7 +4,7 @@ use dd_values::Items;
 /// A linear inequality, with one coefficient for each column. Each column stands for a number. The row says that the sum of
 /// these numbers, each times its coefficient, is at most `bound`. Column 0 is a lower bound for what each position holds in the
 /// end. After it there is a column for each vector and pattern: the amount that a position with this pattern around it gives
-/// along the vector. These columns are listed vector by vector, and for each vector pattern by pattern.
+/// along the vector. These columns are listed vector by vector, and within each vector, pattern by pattern.
 #[derive(Debug, Drop)]
 pub struct Row {
     pub coefficients: Items<i64>,

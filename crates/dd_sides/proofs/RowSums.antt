@@ -1,4 +1,5 @@
--- The left side of a row, as a sum over the vectors.
+-- The sides of a row. The left side is the bound, plus what the position gives, minus what it receives, each as a sum over the vectors. The right
+-- side is the position's weight.
 use Rattle.std.proofs.Common.{◌≡◌, ℕ, zero, suc, ◌+◌, ◌*◌, ◌<◌, ◌≤◌, Bool, cond, List, [], ◌∷◌, ◌++◌, length, get_or, map, take, drop, refl, sym, ap, subst, ◌∙◌, inl, inr, arith}
 use Rattle.std.proofs.{Math.ListN.get_or-append, Math.ListN.get_or-eq_default, lemmas.Bool.cases_lt, lemmas.Bool.eq-eqb, lemmas.Int.ints}
 use Rattle.std.proofs.lemmas.List.{get_or-append-add, get_or-take, get_or-drop, length-take}
@@ -67,7 +68,7 @@ back x y = omega (arith, ints)
 parted : (x y z : ℤ) → (x -ℤ y) *ℤ z +ℤ y *ℤ z ≡ x *ℤ z
 parted x y z = sym (sum_times (x -ℤ y) y z) ∙ ap (λ (w : ℤ). w *ℤ z) (back x y)
 
--- the sum over the columns of one vector, plus what comes in along it, is what goes out along it
+-- the sum of the amounts along one vector, each times its coefficient, plus what comes in along the vector, is what goes out along it
 block_total : (m o i : ℕ) (a : List ℕ) → total_below (λ j. (one_at j o -ℤ one_at j i) *ℤ pos (get_or a j 0)) m +ℤ pos (get_or (take m a) i 0) ≡ pos (get_or (take m a) o 0)
 block_total m o i a =
     let both = λ (j : ℕ). (one_at j o -ℤ one_at j i) *ℤ pos (get_or a j 0) in

@@ -1,4 +1,4 @@
--- What the tests and the sums over boxes of every side mean.
+-- What `is_in_box`, `box_sum` and `is_in_grown` mean for boxes of every side length.
 use Rattle.std.proofs.Common.{◌≡◌, ◌+◌, ◌≤◌, ℕ, zero, suc, Bool, true, false, cond, sym, ap, ◌∙◌, inl, inr, arith}
 use Rattle.std.proofs.lemmas.Bool.{and_parts, and_from, cases_Bool, false≢true}
 use Rattle.std.proofs.lemmas.{Bool.Decides.Decides-int_eq, Int.ints}

@@ -1,4 +1,4 @@
--- The lines of a pivot: the leaving line, which is the one whose variable leaves, those after it, and all lines together; then the whole table.
+-- The lines of a pivot: the leaving line (the one whose variable leaves), those after it, and all lines together; then the whole table.
 use Rattle.std.proofs.Common.{◌≡◌, ℕ, zero, suc, ◌+◌, ◌<◌, List, [], ◌∷◌, ◌++◌, length, take, drop, add-one, refl, sym, ap, subst, ◌∙◌, arith, drop-cons}
 use Rattle.std.proofs.lemmas.List.{Elements.All-drop, Elements.All-weaker, length-map, get_or-set_same}
 use Rattle.std.specs.{Prelude.map, List.All, List.slice_set}

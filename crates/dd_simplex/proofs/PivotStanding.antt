@@ -262,7 +262,8 @@ module _ (n : ℕ) (t : Table) (d : Dictionary) (k : IsTable t) (s : StandsFor n
         subst IsFraction (sym (solved_at E e j (line_at t.lines r) (in_row j p)))
         (product_fraction (fraction_at (slice_set (line_at t.lines r).cells e one_of) j) (inverse p_cell) (divided_above j p) upside.above f)
 
-    -- if the numbers fit, the coefficients `us`, with 0 at the place e, less q times those of the solved line, are fractions in lowest terms that fit
+    -- if 0 is put at the place e of the coefficients `us`, q times the cells of the solved line are subtracted, and the numbers of this step fit, the
+    -- results are fractions in lowest terms that fit
     less_fractions : (q : Exact) (us : List Exact) (j : ℕ) → length us ≡ length t.others → IsFraction q → ((i : ℕ) → i < length t.others → IsFraction (fraction_at us i))
         → do_all_less_fit q (slice_set us e zero_of) pivot.cells ≡ true → j < length t.others → IsFraction (fraction_at (less q (slice_set us e zero_of) pivot.cells) j)
     less_fractions q us j h o is f p =

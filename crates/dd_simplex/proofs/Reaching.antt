@@ -70,8 +70,8 @@ start_row p k x h =
         total_pick (λ i. times (dictionary_coefficient (start_dictionary p) (p.columns + k) (p.columns + i)) (x (p.columns + i))) k (length p.rows) h none
         ∙ ap (λ (t : Exact). low (times t (x (p.columns + k)))) one
 
--- if, for each row of the program, its left side and its slack sum to s times its bound, the columns and slacks solve the equations of the first
--- dictionary after their bounds are multiplied by s
+-- if, for each row of the program, its left side plus its slack is equal to s times its bound, the columns and slacks solve the equations of the
+-- first dictionary, with the bound of each equation multiplied by s
 pub start_holds : (p : LinearProgram) (s : Exact) (x : ℕ → Exact)
     → ((k : ℕ) → k < length p.rows → plus (fraction_sum (λ j. times (coefficient p k j) (x j)) p.columns) (x (p.columns + k)) ≡ times s (bound_at p k))
     → Holds (count p) (start_dictionary p) s x

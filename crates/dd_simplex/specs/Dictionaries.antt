@@ -35,8 +35,7 @@ fraction_quotient a b = times a (inverse b)
 abbrev pub less_product : Exact → Exact → Exact → Exact
 less_product a q b = plus a (minus (times q b))
 
--- In a pivot, the variable e enters, so it becomes basic, and r leaves. The new row of e is the old row of r, solved for e. This is the bound of the
--- new row.
+-- In a pivot, the variable e enters, so it becomes basic, and r leaves. The new row of e is the old row of r, solved for e. Its bound is `new_bound`.
 abbrev pub new_bound : Dictionary → ℕ → ℕ → Exact
 new_bound d e r = fraction_quotient (d.bound r) (d.entry r e)
 

@@ -64,6 +64,6 @@ pub record IsSoundDictionary (p : LinearProgram) (d : Dictionary) : Type 0 where
   pub bounds : (v : ℕ) → v < count p → d.is_basic v ≡ true → IsNonneg (d.bound v)
   pub leaves : (e : ℕ) → entering (count p) d ≡ Some e → leaving (count p) d e ≡ None → ⊥
 
--- each dictionary to which pivots by Bland's rule lead from the first one is sound, however many pivots there are and however large the numbers
+-- each dictionary reached from the first one through pivots by Bland's rule is sound, however many pivots there are and however large the numbers
 abbrev pub AreSoundDictionaries : LinearProgram → Type 0
 AreSoundDictionaries p = (k : ℕ) (d : Dictionary) → dictionary_after (count p) k (start_dictionary p) ≡ Some d → IsSoundDictionary p d

@@ -107,8 +107,8 @@ pub data Stop : Type 0 where
   -- a variable enters, but there is no limiting variable; the first row of a program rules this out
   Unbounded : Stop
 
--- How a run from d stops if e enters. `next` tells how a run from the dictionary after the pivot stops. The last argument is the variable that
--- leaves, if there is one.
+-- How a run from d stops if e enters. `next` tells how a run stops if it starts from the dictionary after the pivot. The last argument is the
+-- variable that leaves, if there is one.
 abbrev pub iteration : (Dictionary → Stop) → ℕ → Dictionary → ℕ → Option ℕ → Stop
 iteration next n d e None = Unbounded
 iteration next n d e (Some r) = cond (does_iteration_fit n d e r) (next (pivoted d e r)) Overflows

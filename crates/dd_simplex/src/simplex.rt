@@ -1,4 +1,4 @@
-//! The simplex method: pivots by Bland's rule until no variable may enter, within a limit on their number.
+//! The simplex method: a run of pivots by Bland's rule until no variable may enter, with a limit on the number of pivots.
 ghost use Rattle.std.specs.Prelude.{◌≡◌, IfOk, IfErr};
 ghost use Rattle.dd_simplex.specs.Programs.{IsBest};
 ghost use Rattle.dd_simplex.specs.Runs.{RunEnds, IsRunRefusal};

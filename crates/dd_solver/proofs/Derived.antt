@@ -26,7 +26,7 @@ trail_after n known first trail s ok m k d h =
         let w = hint_clause known p r (Forced (get_or trail k d).literal) (λ x. cc) f in
         at_clause (after_step known s) p r w.0 (known_left (known_after known s.deletes) s.clause w.0 r (m.reasons_stay k r d h q ∙ w.1)) ∙ w.2
 
--- a clause that is added gets the number after the last one, so `hint_finding` of this number is what the clause says
+-- a clause that is added gets the number after the last one, so `hint_finding` of this number is `finding` of the clause
 pub hint_new : (known : Known) (c : List Literal) (p : Literal → Bool) (r : ℕ) → r ≡ suc (length known) → hint_finding (known ++ Some c ∷ []) p r ≡ finding p c
 hint_new known c p r e = at_clause (known ++ Some c ∷ []) p r c (known_last known c r e)
 

@@ -1,5 +1,5 @@
 -- The marked steps of a refutation are a refutation too. A hint of a marked step names a clause of the list or of a marked step. So this clause is
--- known under its new number where the hint is used. Each marked step but the last is used, and none deletes a clause.
+-- known under its new number where the hint is used. Each kept step but the last is used, and no kept step deletes a clause.
 use Rattle.std.proofs.Common.{◌≡◌, ℕ, suc, ◌<◌, ◌≤◌, Bool, true, false, cond, ◌&&◌, ◌||◌, List, [], ◌∷◌, ◌++◌, map, Some, refl, ap, sym, ◌∙◌, subst, length, inl, inr, ◌⊎◌, arith}
 use Rattle.std.proofs.lemmas.Bool.{and_parts, and_from, or_cases, or_left, or_right, false≢true, eqb-true, eq-eqb}
 use Rattle.std.proofs.lemmas.List.{length-append, Elements.All-nil, Elements.All-cons}

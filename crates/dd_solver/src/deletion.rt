@@ -7,13 +7,13 @@
 //! choose variables that become more active.
 ghost use Rattle.std.specs.Prelude.{◌≡◌, ℕ, List, ◌<◌, false, length, IfOk, Some, slice_index_or};
 ghost use Rattle.dd_clause.specs.declared.clause.Literal.{Literal};
-ghost use Rattle.dd_solver.specs.searching.Deleting.{AreChosen, MayDelete};
+ghost use Rattle.dd_solver.specs.searching.Deleting.{AreReasonsSpared, MayDelete};
 
 use dd_clause::Literal;
 use dd_trail::{Database, Entry, Order, Style, Trail};
 use std::alloc::{AllocError, Global};
 
-/// The first review comes with the clause that is learned after this many.
+/// When this many clauses have been learned, the next learned clause brings the first review.
 const FIRST_REVIEW: usize = 700;
 
 /// The gap at the start. The gap is the number of clauses that are learned between one review and the next.
@@ -49,7 +49,7 @@ pub(crate) struct Deletion {
     counted: Vec<u64>,
     /// The number of the last call of `count_levels`.
     counts: u64,
-    /// The next review comes with the clause that is learned after this many.
+    /// When this many clauses have been learned in all, the next learned clause brings a review.
     next: usize,
     /// How many clauses are learned between one review and the next.
     gap: usize,
@@ -57,7 +57,7 @@ pub(crate) struct Deletion {
 
 /// Sets `chosen` to false for the reason of each entry of the trail. `chosen[k]` belongs to the clause with the number k.
 fn spare_reasons(entries: &[Entry], chosen: &mut [bool])
-    ensures { AreChosen entries.now chosen.new }
+    ensures { AreReasonsSpared entries.now chosen.new }
 {
     for entry in entries {
         if let Some(number) = entry.reason {
@@ -78,7 +78,7 @@ fn take_chosen(
     entries: &[Entry],
     chosen: &[bool],
 ) -> Result<Vec<u64>, AllocError>
-    requires { AreChosen entries.now chosen.now }
+    requires { AreReasonsSpared entries.now chosen.now }
     ensures { IfOk result (λ deletes. MayDelete database.now clauses entries.now deletes.items) }
 {
     let mut deletes: Vec<u64> = Vec::new(alloc);
@@ -216,7 +216,7 @@ impl Deletion {
         entries: &[Entry],
         clauses: usize,
     ) -> Result<Vec<bool>, AllocError>
-        ensures { IfOk result (λ chosen. AreChosen entries.now chosen.items) }
+        ensures { IfOk result (λ chosen. AreReasonsSpared entries.now chosen.items) }
     {
         let newest = self.levels.len().saturating_add(clauses);
         let mut possible = vec![in alloc; true; newest.saturating_add(1)]?;

@@ -136,46 +136,46 @@ module _ (r : LocalRule) (s : Strip) (walk : List ℕ) (rule : IsRule r) (for : 
     none_there : (x : ℤ) → slices_from r s (tile_look (tile_of r s walk)) x 0 ≡ 0
     none_there x = ap (λ (k : ℕ). number_with_digits r.symbols (map (λ i. unwrap_or (tile_look (tile_of r s walk) (cell_from s x i)) 0) (range_with_len 0 k))) (let e : 0 * cells s ≡ 0 = omega arith in e)
 
-    further : (y : ℤ) (n : ℕ) → ((y +ℤ pos 1) +ℤ pos n) ≡ y +ℤ pos (suc n)
-    further y n = omega (arith, ints)
+    further : (x : ℤ) (n : ℕ) → ((x +ℤ pos 1) +ℤ pos n) ≡ x +ℤ pos (suc n)
+    further x n = omega (arith, ints)
 
-    one_further : (y : ℤ) (n : ℕ) → ((y +ℤ pos n) +ℤ pos 1) ≡ y +ℤ pos (suc n)
-    one_further y n = omega (arith, ints)
+    one_further : (x : ℤ) (n : ℕ) → ((x +ℤ pos n) +ℤ pos 1) ≡ x +ℤ pos (suc n)
+    one_further x n = omega (arith, ints)
 
-    -- the n slices after y are the last n slices of the walk's state at y + n, if a state has at least n slices
-    slices_there : (y : ℤ) (n : ℕ) → n ≤ state_length r → slices_from r s (tile_look (tile_of r s walk)) (y +ℤ pos 1) n ≡ state_at r s walk (y +ℤ pos n) % slices r (positions s) ^ n
-    slices_there y zero le = none_there (y +ℤ pos 1) ∙ sym (mod_of_none (state_at r s walk (y +ℤ pos 0)) (slices r (positions s)))
-    slices_there y (suc n) le =
+    -- the n slices after the one at x are the last n slices of the walk's state at x + n, if a state has at least n slices
+    slices_there : (x : ℤ) (n : ℕ) → n ≤ state_length r → slices_from r s (tile_look (tile_of r s walk)) (x +ℤ pos 1) n ≡ state_at r s walk (x +ℤ pos n) % slices r (positions s) ^ n
+    slices_there x zero le = none_there (x +ℤ pos 1) ∙ sym (mod_of_none (state_at r s walk (x +ℤ pos 0)) (slices r (positions s)))
+    slices_there x (suc n) le =
         let look = tile_look (tile_of r s walk) in
         let m = slices r (positions s) in
-        let u = state_at r s walk (y +ℤ pos n) in
-        let v = state_at r s walk (y +ℤ pos (suc n)) in
+        let u = state_at r s walk (x +ℤ pos n) in
+        let v = state_at r s walk (x +ℤ pos (suc n)) in
         let t = last_slice r s v in
-        let rest = slices_there y n (omega (arith, le)) in
-        let here : slices_from r s look ((y +ℤ pos 1) +ℤ pos n) 1 ≡ t = ap (λ (z : ℤ). slices_from r s look z 1) (further y n) ∙ slice_there (y +ℤ pos (suc n)) in
-        let f : Follows r s u v = subst (λ (z : ℤ). Follows r s u (state_at r s walk z)) (one_further y n) (step_at (y +ℤ pos n)) in
+        let rest = slices_there x n (omega (arith, le)) in
+        let here : slices_from r s look ((x +ℤ pos 1) +ℤ pos n) 1 ≡ t = ap (λ (z : ℤ). slices_from r s look z 1) (further x n) ∙ slice_there (x +ℤ pos (suc n)) in
+        let f : Follows r s u v = subst (λ (z : ℤ). Follows r s u (state_at r s walk z)) (one_further x n) (step_at (x +ℤ pos n)) in
         let some : 0 < m ^ n = positive m n f.slice in
         let there : v % m ^ suc n ≡ (u % m ^ n) * m + t =
         ap (λ (k : ℕ). k % m ^ suc n) f.leads ∙ (mod_of_power (u * m + t) m (suc n) (state_length r) le ∙ (ap (λ (p : ℕ). (u * m + t) % p) (pow-suc m n) ∙ mod_longer u m (m ^ n) t some f.slice)) in
-        ap (slices_from r s look (y +ℤ pos 1)) (let e : suc n ≡ n + 1 = omega arith in e)
-        ∙ (edges.longer (y +ℤ pos 1) n ∙ (ap (λ (k : ℕ). k * m + slices_from r s look ((y +ℤ pos 1) +ℤ pos n) 1) rest ∙ (ap (λ (k : ℕ). (u % m ^ n) * m + k) here ∙ sym there)))
+        ap (slices_from r s look (x +ℤ pos 1)) (let e : suc n ≡ n + 1 = omega arith in e)
+        ∙ (edges.longer (x +ℤ pos 1) n ∙ (ap (λ (k : ℕ). k * m + slices_from r s look ((x +ℤ pos 1) +ℤ pos n) 1) rest ∙ (ap (λ (k : ℕ). (u % m ^ n) * m + k) here ∙ sym there)))
       where
         positive : {t : ℕ} (m n : ℕ) → t < m → 0 < m ^ n
         positive m n lt = one-le-pow n m (omega arith)
 
-    -- so the window that begins at y + 1 is that of an edge of the walk: the edge from the state at y + W, where W is `state_length`
-    window_there : (y : ℤ) → IsWindow r s (window_from r s (tile_look (tile_of r s walk)) (y +ℤ pos 1))
-    window_there y =
+    -- so the window that begins at x + 1 is that of an edge of the walk: the edge from the state at x + W, where W is `state_length`
+    window_there : (x : ℤ) → IsWindow r s (window_from r s (tile_look (tile_of r s walk)) (x +ℤ pos 1))
+    window_there x =
         let look = tile_look (tile_of r s walk) in
         let w = state_length r in
         let m = slices r (positions s) in
-        let u = state_at r s walk (y +ℤ pos w) in
-        let v = state_at r s walk (y +ℤ pos (suc w)) in
-        let f : Follows r s u v = subst (λ (z : ℤ). Follows r s u (state_at r s walk z)) (one_further y w) (step_at (y +ℤ pos w)) in
-        let state : slices_from r s look (y +ℤ pos 1) w ≡ u = slices_there y w (omega arith) ∙ mod-eq_of_lt f.state in
-        let here : slices_from r s look ((y +ℤ pos 1) +ℤ pos w) 1 ≡ last_slice r s v = ap (λ (z : ℤ). slices_from r s look z 1) (further y w) ∙ slice_there (y +ℤ pos (suc w)) in
-        let is : window_from r s look (y +ℤ pos 1) ≡ u * m + last_slice r s v =
-        edges.longer (y +ℤ pos 1) w ∙ (ap (λ (k : ℕ). k * m + slices_from r s look ((y +ℤ pos 1) +ℤ pos w) 1) state ∙ ap (λ (k : ℕ). u * m + k) here) in
+        let u = state_at r s walk (x +ℤ pos w) in
+        let v = state_at r s walk (x +ℤ pos (suc w)) in
+        let f : Follows r s u v = subst (λ (z : ℤ). Follows r s u (state_at r s walk z)) (one_further x w) (step_at (x +ℤ pos w)) in
+        let state : slices_from r s look (x +ℤ pos 1) w ≡ u = slices_there x w (omega arith) ∙ mod-eq_of_lt f.state in
+        let here : slices_from r s look ((x +ℤ pos 1) +ℤ pos w) 1 ≡ last_slice r s v = ap (λ (z : ℤ). slices_from r s look z 1) (further x w) ∙ slice_there (x +ℤ pos (suc w)) in
+        let is : window_from r s look (x +ℤ pos 1) ≡ u * m + last_slice r s v =
+        edges.longer (x +ℤ pos 1) w ∙ (ap (λ (k : ℕ). k * m + slices_from r s look ((x +ℤ pos 1) +ℤ pos w) 1) state ∙ ap (λ (k : ℕ). u * m + k) here) in
         subst (IsWindow r s) (sym is) f.is_window
 
     kept_there : (x : ℤ) → IsKeptFrom r (tile_look (tile_of r s walk)) x

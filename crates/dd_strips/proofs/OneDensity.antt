@@ -1,5 +1,5 @@
--- A strip has at most one least density: of two configurations of least density, neither has a lower density than the other, and two fractions in
--- lowest terms with equal cross products are the same.
+-- A strip has at most one least density: of two configurations of least density, neither has a lower density than the other, and two equal fractions
+-- in lowest terms have the same numerator and the same denominator.
 use Rattle.std.proofs.Common.{◌≡◌, ℕ, ◌*◌, ◌<◌, ◌≤◌, List, ap, arith}
 use Rattle.std.proofs.Math.Nat.{le_of_mul-le-mul_right, mul-le-mul_left, mul-le-mul_right}
 use Rattle.std.specs.Int.{IsGcd}

@@ -1,6 +1,6 @@
--- Slices that obey the rule form a walk. Along a walk of j steps, the potential rises by at most l times the slices' weight, less m * j, and the rank
--- falls by at least j. Both follow from telescoping sums over the edges. The rule keeps a window if each symbol is one that its node allows, and the
--- rule is true at each cell of the window's tested slice (see `dd_transfer`).
+-- Slices that obey the rule form a walk. Along a walk of j steps whose added slices weigh w in total, the potential rises by at most l * w - m * j,
+-- and the rank falls by at least j. Both follow from telescoping sums over the edges. The rule keeps a window if each symbol is one that its node
+-- allows, and the rule is true at each cell of the window's tested slice (see `dd_transfer`).
 use Rattle.std.proofs.Common.{◌≡◌, ℕ, zero, suc, ◌+◌, ◌*◌, ◌<◌, ◌≤◌, List, map, ℤ, pos, ◌+ℤ◌, ◌≤ℤ◌, unsigned_abs, ap, sym, ◌∙◌, subst, arith}
 use Rattle.std.proofs.lemmas.{Int.ints, Nat.mod_below, List.Sums.sum_by-append}
 use Rattle.std.specs.{Prelude.◌<ℤ◌, Prelude.◌-ℤ◌, Prelude.slice_index, Prelude.unwrap_or, List.range_with_len}

@@ -1,5 +1,5 @@
--- Adjacency and balls: the lists of neighbours and of balls have exactly the cells of the sets that they stand for. The test `is_adjacent` decides
--- whether two cells are adjacent.
+-- Adjacency and balls: the list `neighbours` has exactly the adjacent cells, and the list `ball` has exactly the cells of the ball. The test
+-- `is_adjacent` decides whether two cells are adjacent.
 use Rattle.std.proofs.Common.{◌≡◌, ℕ, zero, suc, List, [], ◌∷◌, Bool, true, false, cond, refl, ap, sym, ◌∙◌, subst, inl, inr, Contains, eq-eqb}
 use Rattle.std.proofs.lemmas.Bool.{eqb-true, and_parts, and_from, Decides.Decides-int_eq}
 use Rattle.std.proofs.lemmas.List.Elements.{Contains-append_left, Contains-append_right, Contains-append_cases}

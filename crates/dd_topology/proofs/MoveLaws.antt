@@ -1,5 +1,5 @@
--- At most one edge with a given label leaves each node, so a move by a label leads to at most one cell. The edge that the move follows is found by its
--- index in the list of moves.
+-- At most one edge with a given label leaves each node, so a move by a label leads to at most one cell. The edge that the move follows is found at
+-- the move's index in the list of moves.
 use Rattle.std.proofs.Common.{◌≡◌, ◌+◌, ◌<◌, ℕ, List, [], ◌∷◌, ◌++◌, Bool, true, false, ◌&&◌, map, length, get_or, take, Option, Some, None, Contains, refl, ap, sym, ◌∙◌, inl, inr, arith, true≢false, eq-eqb}
 use Rattle.std.proofs.lemmas.Bool.{eqb-true, and_parts, and_from, cases_order}
 use Rattle.std.proofs.lemmas.{Bool.Decides.nat_tests, List.take_more, List.get_or_default, List.map-append}

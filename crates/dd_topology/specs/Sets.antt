@@ -22,7 +22,7 @@ pub record IsRow (m : ℕ) (row : List Bool) : Type 0 where
   pub as_many : length row ≡ m
   pub some : list_any (λ b. b) row ≡ true
 
--- what holds of the sets of n nodes
+-- what holds of the symbol sets that n nodes allow
 pub record IsSets (n : ℕ) (s : SymbolSets) : Type 0 where
   pub symbols : 1 ≤ s.symbols
   pub nodes : length s.allowed ≡ n

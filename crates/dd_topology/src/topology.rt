@@ -19,8 +19,8 @@ use indexmap::IndexSet;
 use std::alloc::Global;
 use std::marker::Model;
 
-/// A move: a label, and the node from which the move leads. An edge makes the move with its label and its first node. No
-/// two edges of a topology make the same move.
+/// A move: a label, and the node from which the move leads. The move that an edge makes consists of its label and its first
+/// node. No two edges of a topology make the same move.
 #[derive(Clone, Copy, PartialEq, Eq, Hash)]
 pub(crate) struct Move {
     label: u32,

@@ -1,4 +1,5 @@
--- The copy of the clauses: two literals of a clause change places, a clause is copied, and what a clause says is read from its places.
+-- The copy of the clauses: two literals of a clause change places, a clause is copied, and the places of a clause show that it is falsified or forces
+-- a literal.
 use Rattle.std.proofs.Common.{◌≡◌, ◌≢◌, ◌⊎◌, ℕ, zero, suc, ◌+◌, ◌-◌, ◌*◌, ◌<◌, ◌≤◌, Bool, true, false, cond, List, [], ◌∷◌, ◌++◌, Option, Some, None, Result, Ok, Err, map, refl, ap, sym, ◌∙◌, subst, length, get_or, inl, inr, arith}
 use Rattle.std.proofs.lemmas.Bool.{cases_eq, cases_lt, or_cases, or_right, false≢true}
 use Rattle.std.proofs.lemmas.List.{length-append, length-replicate, get_or_append_left, get_or-replicate}
@@ -47,7 +48,7 @@ module _ (numbers : List ℕ) (old new : List Code) (i j : ℕ) (many : length n
     clauses = λ p c lt k. holds_swapped (number_at numbers p) c (a.clauses p c (rw many at lt) k);
   }
 
--- ---- what a clause says
+-- ---- a clause is falsified or forces a literal
 
 module _ (known : List (Option (List Literal))) (copy : Copy) (falses : List Literal) (first end r : ℕ) (copied : AreCopied known copy) (is_known : is_some (clause_of known r) ≡ true) (stop : IsStop falses copy.codes first end) (many : length copy.numbers ≡ length copy.codes) (only : AreOnly copy.numbers first end r) where
   the_clause : (c : List Literal) × (clause_of known r ≡ Some c) × HoldsClause copy r c
@@ -122,11 +123,11 @@ module _ (known : List (Option (List Literal))) (copy : Copy) (falses : List Lit
           let w = h.only place (within which) (numbered which) coded in
           subst (λ (x : Literal). In c x) (same_code w.literal l (sym w.is_code ∙ sym is)) w.member
 
--- a literal is false if the list that says so has true at its code
+-- a literal is false if the list `denied` has true at its code
 pub denied_false : (denied : List Bool) (falses : List Literal) (index : ℕ) → ((l : Literal) → get_or denied (code l) false ≡ is_among falses l) → true ≡ get_or denied index false → (l : Literal) → index ≡ code l → is_among falses l ≡ true
 denied_false denied falses index told is l e = sym (told l) ∙ ap (λ i. get_or denied i false) (sym e) ∙ sym is
 
--- A look found nothing, or that a clause forces the literal with a given code. This finding is right if the clause forces that literal.
+-- A look found nothing, or it found that a clause forces the literal with a given code. This finding is right if the clause forces that literal.
 pub forced_says : (known : List (Option (List Literal))) (n : ℕ) (trail : List Entry) (r index : ℕ) (found : Scan) → SaysForced n trail r index found
     → ((l : Literal) → code l ≡ index → has_variable l.variable (falses trail) ≡ false → 1 ≤ l.variable → hint_finding known (is_among (falses trail)) r ≡ Forced l) → Says known (falses trail) ⊤ found
 forced_says known n trail r index (Conflict s) h f = absurd h

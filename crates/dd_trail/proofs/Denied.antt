@@ -1,5 +1,6 @@
--- How the list that says which literals are false changes when a literal becomes false, and when this is undone. A variable is free exactly when the
--- list says that neither of its literals is false. Each variable has a value exactly when there are as many entries as variables.
+-- How the list `denied`, which says of each literal whether it is false, changes when a literal becomes false, and when this is undone. A variable is
+-- free exactly when the list says that neither of its literals is false. Each variable has a value exactly when there are as many entries as
+-- variables.
 use Rattle.std.proofs.Common.{◌≡◌, ◌≢◌, ℕ, ◌+◌, ◌*◌, ◌<◌, ◌≤◌, Bool, true, false, cond, not, ◌&&◌, ◌||◌, List, [], ◌∷◌, ◌++◌, refl, ap, sym, ◌∙◌, subst, length, get_or, set, take, inl, inr, arith, eqb, get_or-set_same, get_or-set_other}
 use Rattle.std.proofs.lemmas.Bool.{cases_eq, false≢true, false_from_ne_true, or_left}
 use Rattle.std.proofs.lemmas.List.{length-set, length-append, length-take, take-append-le, get_or-take, get_or_append_left, take_all, take_more}

@@ -17,8 +17,8 @@ pub record At (numbers : List ℕ) (codes : List Code) (most number : ℕ) (entr
   pub numbered : number_at numbers place ≡ number
   pub coded : get_or codes place end_mark ≡ entry
 
--- The places below `place` were gone through. The first `kept` places hold what is kept of them, with numbers that never fall. The places from
--- `place` on are unchanged.
+-- The places below `place` have been passed. The first `kept` places hold what is kept of them, with numbers that never fall. The places from `place`
+-- on are unchanged.
 pub record Keeps (alive : List Bool) (ns : List ℕ) (cs : List Code) (kept place : ℕ) (numbers : List ℕ) (codes : List Code) : Type 0 where
   pub as_many : length numbers ≡ length ns
   pub as_many_codes : length codes ≡ length cs

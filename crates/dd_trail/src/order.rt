@@ -22,7 +22,8 @@ const MOST_ACTIVE: u64 = 1 << 60;
 /// How many low bits each activity loses when all are made smaller.
 const LOST_BITS: u32 = 32;
 
-/// In the broad style, the increment grows after each conflict: it is divided by this number, and the quotient is added to it.
+/// In the broad style (see `Style`), the increment grows after each conflict: it is divided by this number, and the quotient is
+/// added to it.
 const BROAD_PART: u64 = 64;
 
 /// The same for the focused style: the increment is divided by this number, and the quotient is added to it.
@@ -45,7 +46,7 @@ pub enum Style {
     /// active only once, however many of the resolved clauses contain it, as in MiniSat (Eén and Sörensson 2003). This style is
     /// better on large tori (a torus is a box of cells with its opposite sides joined): each cell is as good as any other
     /// there, and the search stays with the cells that it is working on. This style is also better for the question whether two
-    /// automata differ.
+    /// cellular automata differ.
     Focused,
     /// As in the focused style, a variable becomes more active only once in a conflict, with this exception: it becomes more
     /// active a second time if its value was forced, at or after the last decision, by a learned clause that has fewer levels

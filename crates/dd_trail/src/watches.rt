@@ -9,9 +9,9 @@
 //! An entry of the trail makes the negation of its literal false. To read the entry is to pass the watchers of this negation,
 //! one after the other. To pass a watcher is to look for a literal that its clause can watch instead of the false one. This is
 //! not needed if the watcher's other literal is true, or if the other literal that the clause watches is true. A passed watcher
-//! stays in the list, or moves to the list of the literal that its clause now watches. No invariant says that the place that a
-//! watcher names is within the copy, or that the places looked at from there are those of one clause. So the code tests both.
-//! The tests never fail.
+//! stays in the list, or moves to the list of the literal that its clause now watches. No invariant says that the place at
+//! which a watcher's clause begins is within the copy, or that the places looked at from there are those of one clause. So the
+//! code tests both. The tests never fail.
 ghost use Rattle.std.specs.Prelude.{◌≡◌, ◌<◌, ◌≤◌, ◌^◌, List, Option, length, IfOk, IfSome, MatchOption, ⊤};
 ghost use Rattle.dd_clause.specs.declared.clause.Literal.{Literal};
 ghost use Rattle.dd_trail.specs.Trails.{falses, IsFull};
@@ -330,9 +330,9 @@ impl Watches {
         Ok(found)
     }
 
-    /// Reads the entries of the trail that have not been read yet. Makes true each literal that a clause at a stop forces, and
-    /// reads the literal's entry too. Stops at a falsified clause, and returns its number. Returns `None` if it finds no
-    /// falsified clause.
+    /// Reads the entries of the trail that have not been read yet. Makes true each literal that is forced by a clause at which
+    /// `pass` stops, and reads the literal's entry too. Stops at a falsified clause, and returns its number. Returns `None` if
+    /// it finds no falsified clause.
     fn read(&mut self, database: &Database, trail: &mut Trail) -> Result<Option<u64>, AllocError>
         requires in_range { AreInRange trail.old.variables database.now }
         requires trail { IsTrail trail.old.variables database.now trail.old.entries }

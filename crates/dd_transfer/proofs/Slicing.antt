@@ -62,7 +62,7 @@ module _ (r : LocalRule) (s : Strip) (look : Look) (for : IsFor r s) where
   pub length-symbols : (x : ℤ) (n : ℕ) → length (symbols_from s look x n) ≡ n * cells s
   length-symbols x n = length-listed (symbol_from s look x) (n * cells s)
 
-  -- moving on in the list by m times the number of cells in a slice is moving m further along x
+  -- after the first m slices from x on, the cells are those of the slices from x + m on
   further : (x : ℤ) (m k : ℕ) → cell_from s x (m * cells s + k) ≡ cell_from s (x +ℤ pos m) k
   further x m k =
       let c = cells s in

@@ -1,6 +1,6 @@
 -- What certifies the least density of a strip: a closed walk of the transfer graph, and a potential for each state. The potentials show that no
--- closed walk has a smaller mean. The mean of a closed walk is its weight divided by its length. If the graph has no infinite walk, a rank for each
--- state certifies this.
+-- closed walk has a smaller mean. The mean of a closed walk is its weight divided by its length, and its density is this mean divided by the number
+-- of positions in a slice. If the graph has no infinite walk, a rank for each state certifies this.
 use Rattle.std.specs.Prelude.{◌≡◌, ℕ, ◌+◌, ◌*◌, ◌%◌, ◌<◌, ℤ, pos, ◌-ℤ◌, ◌≤ℤ◌, List, [], ◌∷◌, length, slice_index, slice_index_or}
 use Rattle.std.specs.Int.{IsGcd}
 use Rattle.dd_formula.specs.LocalRule.{LocalRule}

@@ -41,7 +41,7 @@ pub record IsTransfer (g : Transfer) : Type 0 where
   pub some_slice : 0 < g.slices
   pub few : g.states ≤ most_states
   pub small : g.states * g.slices ≤ most_windows
-  -- because of this, if an edge by the slice t leads to the state v, then t is v modulo g.slices
+  -- the number of slices divides the number of states; so if an edge by the slice t leads to the state v, then t is v modulo g.slices
   pub divides : g.states % g.slices ≡ 0
-  -- because of this, a walk that passes each state at most once weighs at most 2^25
+  -- each slice is light; so a walk that passes each state at most once weighs at most 2^25
   pub light : (t : ℕ) → t < g.slices → g.states * weight_at g t ≤ 2 ^ 25

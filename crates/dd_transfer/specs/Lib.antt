@@ -4,7 +4,7 @@ pub mod Graphs
 pub mod Windows
 -- the transfer graph of a rule over a strip
 pub mod Transfers
--- what certifies the least density of a strip
+-- what certifies the least weight per position along a closed walk of the transfer graph
 pub mod Certificates
 -- the slices of a look, and the states and windows that they make; a look gives each cell a symbol, or none
 pub mod Slices

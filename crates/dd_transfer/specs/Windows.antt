@@ -65,8 +65,8 @@ pub record IsKept (r : LocalRule) (look : Look) : Type 0 where
 abbrev pub IsWindow : LocalRule → Strip → ℕ → Type 0
 IsWindow r s number = IsKept r (numbered_window r s number)
 
--- A window of the rule: its strip is one for the rule (see `IsFor` of dd_strip), there is a symbol for each cell of its slices, and each symbol is in
--- the alphabet.
+-- A window of the rule: its strip is suitable for the rule (see `IsFor` of dd_strip), there is a symbol for each cell of its slices, and each symbol
+-- is in the alphabet.
 pub record IsFullWindow (r : LocalRule) (w : Shown) : Type 0 where
   pub strip_for : IsFor r w.strip
   pub cells_are : length w.symbols ≡ window_cells r w.strip

@@ -1,6 +1,6 @@
 //! Data that most crates use: a list, a heap box, and limits that several crates share. Contracts see only the contents of a
-//! list or a box. The crate's `specs/` also has the ranges of the limits on the work for one answer, counts of faults and of
-//! what engines did, the truth values of numbered variables, and lemmas on truth values, numbers and lists.
+//! list or a box. The crate's `specs/` also has the ranges of the limits on the work for one answer, counts of failed reads and
+//! writes, counts of what engines did, the truth values of numbered variables, and lemmas on truth values, numbers and lists.
 //!
 //! A script is a text of commands, some of which are queries. Each position of Z^d has one or more nodes. A cell is a position
 //! together with one of its nodes. Edges join some cells. The ball of radius r around a cell consists of the cells that a path

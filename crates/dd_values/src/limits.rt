@@ -7,9 +7,9 @@ use crate::bounds::{GREATEST_PERIOD, GREATEST_RADIUS, MOST_PIVOTS};
 /// The limits that a script may set on the work for one answer. If they leave the question undecided, the answer is UNKNOWN.
 #[derive(Clone, Copy, Debug, PartialEq, Eq)]
 pub struct Limits {
-    /// The greatest radius of a box around the origin that the search tries. One box is tried even if its radius is greater:
-    /// the smallest box that holds all cells that the goal reads at the origin. The goal is the property of a position that the
-    /// search looks for, such as that a rule is broken there.
+    /// The greatest radius of a box around the origin that the search tries. The search looks for a position with a given
+    /// property, the goal, such as that a rule is broken there. One box is tried even if its radius is greater: the smallest
+    /// box that holds all cells that the goal reads at the origin.
     pub radius: u32,
     /// The greatest period, along each axis, of the tori that the search tries.
     pub period: u32,

@@ -261,7 +261,8 @@ value_length k c w at n =
     let second = length-append (r.gates ++ chosen) symbols in
     omega (arith, l, first, second)
 
--- the requirements of the last two of the three steps (the choices and the symbols), except the requirement that the rules' signals are in range
+-- the requirements of the last two of the three steps (the choices and the symbols), except the requirement that the rules' signals are signals of
+-- the circuit
 pub record Asks (k n : ℕ) (rules chosen : List Signal) (xs : List ℕ) (one two : ℕ) : Type 0 where
   pub choose_few : one + length (choices [] rules) ≤ most_variables
   pub as_many : length chosen ≡ length xs

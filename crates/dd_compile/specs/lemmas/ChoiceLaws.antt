@@ -102,7 +102,7 @@ pub fresh_length : (n k : ℕ) → length (fresh n k) ≡ k
 fresh_length n zero = refl
 fresh_length n (suc k) = ap suc (fresh_length (suc n) k)
 
--- the signals of new variables are in range
+-- if n + k ≤ m, the signals of the k variables that follow the first n have variables among 1..m
 pub fresh_in_range : (n k m : ℕ) → n + k ≤ m → All (IsSignal m) (fresh n k)
 fresh_in_range n zero m h i d within = absurd (omega arith)
 fresh_in_range n (suc k) m h zero d within = (omega arith, omega (arith, h))

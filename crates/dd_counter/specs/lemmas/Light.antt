@@ -70,5 +70,5 @@ least_unique x p ws v w one two =
     omega (arith, here, there, one.some.2, two.some.2)
 
 -- there is no least weight if there is no living configuration
-pub none_or_least : (x : LocalRule) (p : Periods) (ws : List ℕ) (w : ℕ) → NoneOn x p → LeastOn x p ws w → ⊥
-none_or_least x p ws w none least = none least.some.0 least.some.1
+pub none_not_least : (x : LocalRule) (p : Periods) (ws : List ℕ) (w : ℕ) → NoneOn x p → LeastOn x p ws w → ⊥
+none_not_least x p ws w none least = none least.some.0 least.some.1

@@ -53,8 +53,8 @@ silent_at set (suc b) ws signals t none say light =
     let below = suc b in
     sym (said_at set signals (below - 1)) ∙ (say (below - 1) (omega arith) ∙ le-ltb (below - 1) (total_weight ws t.symbols) (light_at below ws t light (omega arith)))
 
--- What `weighed_shows` needs. The torus's clauses ask for living configurations, use only their own variables, and have inputs for the c cells of the
--- fundamental box. Each symbol has a weight.
+-- What `weighed_shows` needs. The torus's clauses ask for living configurations, use only the first `base.variables` variables, and have inputs for
+-- the c cells of the fundamental box. Each symbol has a weight.
 pub record Stand (base : ClauseList) (x : LocalRule) (periods : Periods) (ws : List ℕ) (c : ℕ) : Type 0 where
   pub shows : ShowsTorus base.clauses x always periods
   pub own : (set other : ℕ → Bool) → Alike base.variables other set → Satisfies set base.clauses → Satisfies other base.clauses

@@ -91,8 +91,8 @@ pub without-known_of : (cs : List (List Literal)) (alive : List Bool) (number : 
 without-known_of cs alive zero n = absurd (n refl)
 without-known_of cs alive (suc k) n = let e : suc k - 1 ≡ k = omega arith in rw e (sym (known_of-set cs alive k))
 
--- Let the clause named at index i of `numbers` be alive. Then the clauses named from index i on can be deleted exactly when those named after index i
--- can be deleted after this one has been deleted.
+-- Let the clause named at index i of `numbers` be alive. Then the clauses named from index i on can be deleted exactly when those named from index i
+-- + 1 on can be deleted once this one has been deleted.
 pub deletes_one : (cs : List (List Literal)) (alive : List Bool) (numbers : List ℕ) (i : ℕ) → i < length numbers → (get_or numbers i 0 ≡ 0 → ⊥) → get_or numbers i 0 - 1 < length cs → length cs ≤ length alive → get_or alive (get_or numbers i 0 - 1) false ≡ true → are_deletable (known_of cs alive) (drop i numbers) ≡ are_deletable (known_of cs (set alive (get_or numbers i 0 - 1) false)) (drop (i + 1) numbers)
 deletes_one cs alive numbers i h n p l a = rw (drop-cons numbers i 0 h, add-one i, alive_some cs alive (get_or numbers i 0) n p l a, without-known_of cs alive (get_or numbers i 0) n) refl
 

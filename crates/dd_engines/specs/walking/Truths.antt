@@ -36,19 +36,19 @@ changed f [] counts = counts
 changed f (k ∷ ks) counts = changed f ks (slice_set counts k (f (slice_index_or counts k 0)))
 
 -- the count at this place is 0: no literal of its clause is true
-abbrev pub is_none_at : List ℕ → ℕ → Bool
-is_none_at counts k = option_map_or (λ count. count == 0) (slice_get counts k) false
+abbrev pub is_zero_at : List ℕ → ℕ → Bool
+is_zero_at counts k = option_map_or (λ count. count == 0) (slice_get counts k) false
 
 -- The places are divided into blocks of 32, and each block may have a mark. If the count at a place is 0, then the place's block has a
 -- mark, and does not come before the block `start`.
 pub record IsListed (counts : List ℕ) (marks : List Bool) (start : ℕ) : Type 0 where
   pub long : length marks ≡ length counts / 32 + 1
-  pub after : (k : ℕ) → is_none_at counts k ≡ true → start ≤ k / 32
-  pub marked : (k : ℕ) → is_none_at counts k ≡ true → slice_index_or marks (k / 32) false ≡ true
+  pub after : (k : ℕ) → is_zero_at counts k ≡ true → start ≤ k / 32
+  pub marked : (k : ℕ) → is_zero_at counts k ≡ true → slice_index_or marks (k / 32) false ≡ true
 
 -- no place from `first` up to, but not including, `end` has a count of 0
 abbrev pub NoneWithin : List ℕ → ℕ → ℕ → Type 0
-NoneWithin counts first end = (k : ℕ) → first ≤ k → k < end → is_none_at counts k ≡ false
+NoneWithin counts first end = (k : ℕ) → first ≤ k → k < end → is_zero_at counts k ≡ false
 
 -- in this block, the place is the first one with a count of 0
 pub record IsFirstIn (counts : List ℕ) (block place : ℕ) : Type 0 where
@@ -58,11 +58,11 @@ pub record IsFirstIn (counts : List ℕ) (block place : ℕ) : Type 0 where
   pub before : NoneWithin counts (32 * block) place
 
 -- no place has a count of 0
-abbrev pub NoneIsNone : List ℕ → Type 0
-NoneIsNone counts = (k : ℕ) → is_none_at counts k ≡ false
+abbrev pub NoneIsZero : List ℕ → Type 0
+NoneIsZero counts = (k : ℕ) → is_zero_at counts k ≡ false
 
 -- the place is the first one with a count of 0
-pub record IsFirstNone (counts : List ℕ) (place : ℕ) : Type 0 where
+pub record IsFirstZero (counts : List ℕ) (place : ℕ) : Type 0 where
   pub within : place < length counts
   pub none : slice_index_or counts place 0 ≡ 0
-  pub before : (k : ℕ) → k < place → is_none_at counts k ≡ false
+  pub before : (k : ℕ) → k < place → is_zero_at counts k ≡ false

@@ -171,8 +171,8 @@ first_in_order g cs =
     list_all-flat_map p (moved_cells g) (in_order cs)
     ∙ (list_all-in_order (λ c. list_all p (moved_cells g c)) cs ∙ sym (list_all-flat_map p (moved_cells g) cs)))
 
--- A composition reads the cells that its second part reads at each cell that its first part reads. Here the cells that each of the three automata
--- reads are listed in cell order.
+-- A composition reads the cells that its second part reads at each cell that its first part reads. Here the cells that the composition reads, and
+-- those that each part reads, are listed in cell order.
 pub reads_composed : (f g : Automaton) (a : ℕ) → cells_of (v.Composed f g) a ≡ in_order (flat_map (moved_cells g) (cells_of f a))
 reads_composed f g a =
     ap (λ h. in_order (h.reads a)) (counted_composed f g)
@@ -246,7 +246,7 @@ has_rules_given c = ap has_rules (sym (v.rolls-Given c)) ∙ fold-roll-Automaton
 pub has_rules_composed : (f g : Automaton) → has_rules (v.Composed f g) ≡ (has_rules f || has_rules g)
 has_rules_composed f g = ap has_rules (sym (v.rolls-Composed f g)) ∙ fold-roll-Automaton Bool has_rules_step (Automaton-F.Composed f g)
 
--- if r is the number of nodes of the cases' rules, or none if there is no case, then `IsNodesOf` holds of the automaton by cases and r
+-- if r is the number of nodes of the cases' rules, or none if there is no case, then `IsNodesOf` holds for r and the automaton with these cases
 pub nodes_given : (c : Cases) (r : Option ℕ) → MatchOption r (length c.cases ≡ 0) (λ n. (s : CommonNumbers) → cases_fit s c.cases c.otherwise ≡ true → s.nodes ≡ n) → IsNodesOf (v.Given c) r
 nodes_given c None h = has_rules_given c ∙ ap (nat_lt 0) h
 nodes_given c (Some n) h = λ s fit. h s (sym (fits_given s c) ∙ fit)

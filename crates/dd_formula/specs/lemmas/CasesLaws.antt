@@ -22,11 +22,11 @@ module _ (r : LocalRule) (f : Counted) (large : (a : ℕ) → instances (expansi
   refused Memory few h = tt
 
 -- for the same counts, a fault that is right by `IsCasesRefusal` is also right by `IsCompositionFault`
-pub passes_one : (n : ℕ) (f : Counted) (e : RuleFault) → IsCasesRefusal n f e → IsCompositionFault n f e
-passes_one n f Instances h = h
-passes_one n f Reach h = h
-passes_one n f Depth h = absurd h
-passes_one n f Memory h = tt
+pub as_composition_fault : (n : ℕ) (f : Counted) (e : RuleFault) → IsCasesRefusal n f e → IsCompositionFault n f e
+as_composition_fault n f Instances h = h
+as_composition_fault n f Reach h = h
+as_composition_fault n f Depth h = absurd h
+as_composition_fault n f Memory h = tt
 
 -- the case that a loop over the cases has reached
 pub record IsCase (cases : List (LocalRule × ℕ)) (i : ℕ) (case : LocalRule × ℕ) : Type 0 where

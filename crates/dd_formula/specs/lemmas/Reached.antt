@@ -1,5 +1,5 @@
 -- What a rule reads at the cells of a fundamental box, for a periodic configuration that fits the rule: cells in the range of positions, each with a
--- symbol of the alphabet. The box has at most 65,536 symbols, as in all configurations that code can hold. At the end, bounds on the symbols that
+-- symbol of the alphabet. The box has at most 65,536 symbols, the most that a `Periodic` can have. At the end, bounds on the symbols that
 -- configurations and fillings give.
 use Rattle.std.proofs.Common.{◌≡◌, ℕ, ◌<◌, ◌≤◌, true, List, [], ◌∷◌, pos, unsigned_abs, refl, ap, arith}
 use Rattle.std.proofs.lemmas.Int.{ints}
@@ -58,8 +58,8 @@ all_given r t fits ok c h (d ∷ ds) near placed =
     let exists : d.node < t.nodes = omega (arith, node, fits.nodes) in
     and_from _ _ (read_given t ok c d h (leb-true _ _ nears.0) exists) (all_given r t fits ok c h ds nears.1 places.1)
 
--- if a configuration that code can hold fits a well-formed rule, then each cell that the rule reads at a cell of the box lies in the range of positions
--- and has a symbol
+-- if a periodic configuration whose box has at most 65,536 symbols fits a well-formed rule, then each cell that the rule reads at a cell of the box
+-- lies in the range of positions and has a symbol
 pub box_given : (r : LocalRule) (t : Tile) → IsRule r → Fits r t → IsPeriodic t → (c : Cell) → IsInBox t c → is_given r c (tile_look t) ≡ true
 box_given r t rule fits ok c h =
     let node : c.node < r.nodes = omega (arith, h.node, fits.nodes) in

@@ -1,5 +1,5 @@
--- In a box, each position leads to its number and back, and each number leads to its position and back. The positions between the bounds of B(n), the
--- centred box of radius n, are exactly those of B(n).
+-- `index_in` and `place_in` are inverse to each other on the positions of a box and the numbers below its volume. The positions between the bounds of
+-- B(n), the centred box of radius n, are exactly those of B(n).
 use Rattle.std.proofs.Common.{◌≡◌, ◌↔◌, Bool, true, false, ◌-ℤ◌, ℕ, ◌+◌, ◌*◌, ◌/◌, ◌%◌, ◌<◌, ℤ, pos, ◌+ℤ◌, ◌≤ℤ◌, arith, mul_comm}
 use Rattle.std.proofs.lemmas.Int.{ints}
 use Rattle.std.proofs.lemmas.Nat.{mul-add-lt, div-mul-add, mod-mul-add, mod_below, div_below, div-add-mod'}

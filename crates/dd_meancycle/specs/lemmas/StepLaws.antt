@@ -42,7 +42,7 @@ mod_of_multiple x s n some more h =
     let small : r < s = mod_below (x % n) s some in
     sym (ap (λ (z : ℕ). z % s) all ∙ mod-mul-add (q * k + j) s r small)
 
--- the slice of an edge is the last slice of the state v to which it leads: its number is v modulo the number of slices
+-- the slice of an edge is the last slice of the state v to which it leads: its number is v modulo the number of different slices
 pub last_slice : (g : Transfer) (u t v : ℕ) → IsTransfer g → next_of g u t ≡ Some v → v % g.slices ≡ t
 last_slice g u t v well h =
     let s = step g u t v h in

@@ -12,8 +12,8 @@ abbrev pub lowered : Option ℕ → ℕ → Option ℕ
 lowered None x = Some x
 lowered (Some y) x = Some (min y x)
 
--- the row, in which the given weight plus the weight of the edge e becomes the entry for the target of e, if that entry is none or greater; if no
--- weight is given, the row as it is
+-- the row, changed at the target of the edge e: if the entry there is none, or greater than the given weight plus the weight of e, this sum replaces
+-- it; if no weight is given, the row as it is
 abbrev pub lower_at : Option ℕ → List (Option ℕ) → Edge → List (Option ℕ)
 lower_at None row e = row
 lower_at (Some a) row e = slice_set row e.to (lowered (at row e.to) (a + e.weight))

@@ -1,5 +1,5 @@
 -- The edges of a transfer graph as a list. A window is a state followed by a slice, and may be an edge. Its number is the state's number times the
--- number of slices, plus the slice's number.
+-- number of different slices, plus the slice's number.
 use Rattle.std.specs.Prelude.{◌≡◌, ℕ, ◌*◌, ◌/◌, ◌%◌, ◌<◌, List, map, slice_index, ℤ, pos, ◌-ℤ◌, ◌≤ℤ◌, Option, Some}
 use Rattle.std.specs.{Option.option_map, List.Contains, List.All}
 use Rattle.dd_transfer.specs.{Graphs.Transfer, Graphs.next_of, Graphs.weight_at, Certificates.potential_of}

@@ -1,5 +1,4 @@
--- The code returns an entry as an option, as a value and a flag, or as a `PeriodEntry`. These functions give the entry of the
--- grammar that is meant.
+-- The code returns an entry as an option, as a value and a flag, or as a `PeriodEntry`. These functions give the `Entry` that is meant.
 use Rattle.std.specs.Prelude.{ℕ, ℤ, Option, Some, None, Bool, cond}
 use Rattle.dd_clause.specs.declared.clause.Literal.{Literal}
 use Rattle.dd_certificate.specs.declared.answer.Answer.{Answer}

@@ -14,8 +14,8 @@ answer_entry_of a = item a
 abbrev pub query_text : ℕ → List ℕ
 query_text k = codes "query " ++ (decimal (suc k) ++ codes " ")
 
--- The answer with index k, from 0, or the end. Here k is less than the greatest number of answers that an output may have. 113 is the q of
--- `query`.
+-- The answer with index k, or the end. Indices start at 0. Here k is less than the greatest number of answers that an output may have. 113 is the q
+-- of `query`.
 unfoldable pub open_entry : ℕ → List ℕ → Read (Entry Answer (Unit {0}))
 open_entry k = choice_at 113
     (map_at answer_entry_of (after_at (query_text k) (codes "IN\n" ++ end_line) (λ bytes. before end_line (answer_form.read bytes))))

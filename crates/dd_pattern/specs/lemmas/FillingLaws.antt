@@ -1,4 +1,5 @@
--- A filling is read by the indices of its cells. A cell outside the domain has no symbol. If all symbols are below a bound, so is each that is read.
+-- In a filling, each cell has the symbol with the same index. A cell outside the domain has no symbol. If all symbols are below a bound, so is each
+-- that is read.
 use Rattle.std.proofs.Common.{◌≡◌, ◌<◌, ℕ, zero, suc, Bool, true, false, List, [], ◌∷◌, length, get_or, slice_get, Some, None, Ok, Err, Result, ap, sym, subst, refl, ◌∙◌, arith, rules}
 use Rattle.std.proofs.lemmas.{Option.slice_get_past, Option.slice_get-get_or, List.get_or_default}
 use Rattle.std.specs.{Result.MatchResult, List.Contains, List.position_or_len}

@@ -20,7 +20,7 @@ module _ {X : Type 0} where
   filter_step p d true rest here there = rw (here refl, there) refl
   filter_step p d false rest here there = there
 
-  -- if each member that the filter q keeps passes the test p, all members of the filtered list pass it
+  -- if the test p is true of each member that the filter q keeps, it is true of all members of the filtered list
   pub filter_all : (p q : X → Bool) (xs : List X) → ((k : ℕ) (d : X) → slice_get xs k ≡ Some d → q d ≡ true → p d ≡ true) → list_all p (filter q xs) ≡ true
   filter_all p q [] h = refl
   filter_all p q (d ∷ xs) h = filter_step p d (q d) (filter q xs) (h 0 d refl) (filter_all p q xs (λ k e is. h (suc k) e is))

@@ -1,4 +1,4 @@
--- The cells of a torus, and their numbers. A periodic configuration is read by these numbers.
+-- The cells of a torus, and their numbers. In the list of symbols of a periodic configuration, the symbol of a cell stands at the cell's number.
 use Rattle.std.proofs.Common.{◌≡◌, ℕ, suc, ◌*◌, ◌<◌, ◌≤◌, Bool, true, false, List, map, length, refl, ap, sym, subst, ◌∙◌, arith, mul_comm, ◌-◌, ◌%◌, ◌+ℤ◌, Some, ℤ, pos}
 use Rattle.std.proofs.lemmas.{Int.ints, Bool.and_from, Bool.ltb-true, Bool.ltb-false}
 use Rattle.std.proofs.lemmas.{Bool.Decides.Decides-int_eq, Option.slice_get_within, List.FromFn.length-map-range_with_len}

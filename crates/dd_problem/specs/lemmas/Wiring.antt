@@ -17,8 +17,8 @@ use Rattle.dd_problem.specs.lemmas.Parted.{reads_inputs, goal_holds, goal_reads,
 use Rattle.dd_problem.specs.lemmas.Reading.{IsLayout, IsWired}
 use Rattle.dd_values.specs.lemmas.Booleans.{not_true}
 
--- If all numbers of a range pass a test, each one does. If `list_any` is true of a range, some number below the range's end passes; and `list_any` is
--- true if some number in the range passes.
+-- If `list_all` is true of a range, each number in the range passes the test. If `list_any` is true of a range, some number below the range's end
+-- passes; and `list_any` is true if some number in the range passes.
 pub range_at : (p : ℕ → Bool) (n a k : ℕ) → list_all p (range_with_len a n) ≡ true → a ≤ k → k < a + n → p k ≡ true
 range_at p zero a k h low high = absurd (omega arith)
 range_at p (suc n) a k h low high =

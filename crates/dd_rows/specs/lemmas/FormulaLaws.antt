@@ -38,7 +38,7 @@ read_when cs ss d false near size is = none_past cs ss d near size is
 near_reads : (cs : List Cell) (v : Place) (ss : List ℕ) → AreInRange cs → length ss ≡ length cs → (c : Cell) → read_by (ranks_near cs v) ss c ≡ look_of cs ss (shifted v c)
 near_reads cs v ss near size c = read_when cs ss (shifted v c) (is_in_range (moved c.position v)) near size refl
 
--- at each cell of the node a, the expansion y is true exactly when the rule is
+-- at each cell with the node a, the expansion y (a formula without variables) is true exactly when the rule is true
 abbrev pub Tells : LocalRule → ℕ → Expanded → Type 0
 Tells x a y = (look : Look) → HasSymbolsBelow x.symbols look → (v : Place) → holds y (λ d. look (shifted v d)) ≡ is_true x (cell v a) look
 

@@ -180,7 +180,7 @@ itself c = omega (arith, ints)
 same_below : (p : Place) → IsAtMostOnEachAxis p p
 same_below p = record { on_x = itself p.x; on_y = itself p.y; on_z = itself p.z }
 
--- the corners of B(radius) are positions of the ground, so they are in range
+-- the corners of B(radius) are positions of the ground, so each of their coordinates is at most 2^20 in absolute value
 box_in_range : (x : LocalRule) (radius margin : ℕ) (vs : List Place) (cs : List Cell) → IsGround x radius margin vs cs → IsBox (centred x.dimension radius)
 box_in_range x radius margin vs cs sites =
     let b = centred x.dimension radius in

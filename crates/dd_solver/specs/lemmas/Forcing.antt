@@ -1,4 +1,4 @@
--- Which literals are in a list of one literal and in two lists joined. Each literal of a falsified clause is false.
+-- The literals of a list of one literal, and those of two lists joined into one. Each literal of a falsified clause is false.
 use Rattle.std.proofs.Common.{◌≡◌, Bool, true, false, cond, not, ◌&&◌, List, [], ◌∷◌, ◌++◌, refl, sym, ◌∙◌, subst, inl, inr, ◌⊎◌}
 use Rattle.std.proofs.lemmas.Bool.{cases_Bool, or_cases, or_left, or_right, false≢true}
 use Rattle.std.proofs.lemmas.List.Folds.{list_any-append}

@@ -5,8 +5,8 @@ use Rattle.dd_derivation.specs.Derivations.{clause_of, are_deletable, known_afte
 use Rattle.dd_trail.specs.declared.trail.Entry.{Entry}
 
 -- No chosen clause forced an entry of the trail. `chosen` says of each clause number whether that clause is chosen.
-abbrev pub AreChosen : List Entry → List Bool → Type 0
-AreChosen trail chosen =
+abbrev pub AreReasonsSpared : List Entry → List Bool → Type 0
+AreReasonsSpared trail chosen =
     (k r : ℕ) (d : Entry) → k < length trail → (slice_index_or trail k d).reason ≡ Some r → slice_index_or chosen r false ≡ false
 
 -- Each clause to be deleted is still there when its turn comes. The clauses numbered up to `first` are kept, and so are those that forced an entry.

@@ -34,11 +34,11 @@ abbrev pub renamed : ℕ → List ℕ → ℕ → ℕ
 renamed clauses numbers number =
     if nat_le number clauses then number else slice_index_or numbers (number - clauses - 1) number
 
--- the step with new numbers in its hints, and with nothing deleted
+-- the step with new numbers in its hints; it deletes nothing
 abbrev pub kept_step : (ℕ → ℕ) → Step → Step
 kept_step rename s = record { clause = s.clause; hints = map rename s.hints; deletes = [] }
 
--- the marked steps with new numbers in their hints, and with nothing deleted
+-- the marked steps with new numbers in their hints; they delete nothing
 abbrev pub kept_steps : (ℕ → ℕ) → List Bool → List Step → List Step
 kept_steps rename [] steps = []
 kept_steps rename (m ∷ marked) [] = []

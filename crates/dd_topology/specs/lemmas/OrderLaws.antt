@@ -116,7 +116,8 @@ cell_total = search (comparing, rules) depth 9
 pub sorted-in_order : (cs : List Cell) → IsStrictlySortedBy cell_cmp (in_order cs)
 sorted-in_order cs = sorted-fold cell_cmp cell_total cs [] (sorted_nil cell_cmp)
 
--- a list that is strictly sorted in cell order is equal to `in_order` of each list with the same members
+-- `in_order` gives the cells of a list in cell order, each once; so a list that is strictly sorted in cell order is equal to `in_order` of each list
+-- with the same members
 pub is-in_order : (xs cs : List Cell) → IsStrictlySortedBy cell_cmp xs → ((d : Cell) → Contains xs d → Contains cs d) → ((d : Cell) → Contains cs d → Contains xs d) → xs ≡ in_order cs
 is-in_order xs cs up to from =
     same_sorted cell_cmp cell_total xs (in_order cs) up (sorted-in_order cs) (λ d there. (in_order_members cs d).1 (to d there)) (λ d there. from d ((in_order_members cs d).0 there))

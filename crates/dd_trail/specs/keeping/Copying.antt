@@ -1,4 +1,4 @@
--- How the copy of the clauses is made, read, and rid of deleted clauses.
+-- How the copy of the clauses is made and read, and how deleted clauses are removed from it.
 use Rattle.std.specs.Prelude.{◌≡◌, ◌≢◌, ℕ, ◌+◌, ◌-◌, ◌<◌, ◌≤◌, nat_le, Bool, true, false, ◌&&◌, List, length, slice_index_or, ⊤}
 use Rattle.dd_clause.specs.declared.clause.Literal.{Literal}
 use Rattle.dd_derivation.specs.Derivations.{is_among}

@@ -9,7 +9,7 @@ one_kept : (p : ℕ → Bool) (n : ℕ) (b : Bool) → p n ≡ b → length (fil
 one_kept p n true h = rw h refl
 one_kept p n false h = rw h refl
 
--- if n has the property p, one number more has it below n + 1 than below n; otherwise as many numbers have it
+-- if n has the property p, there is one more number with this property below n + 1 than below n; otherwise there are equally many
 counted : (p : ℕ → Bool) (n : ℕ) (b : Bool) → p n ≡ b → length (filter p (range_with_len 0 (n + 1))) ≡ length (filter p (range_with_len 0 n)) + cond b 1 0
 counted p n b h =
     ap (λ r. length (filter p r)) (range_push n)

@@ -3,7 +3,7 @@ use Rattle.std.proofs.lemmas.{Int.to_z-of_z, Int.to_z_pos, Bool.eqb-true, Bool.e
 use Rattle.std.specs.Int.{w128, RustNames.unsigned_abs}
 use mir.Val.{SFits}
 use Rattle.dd_fraction.specs.{Exact.Exact, Checked.fraction_of}
-use Rattle.dd_discharge.proofs.Multiples.{own_reduction, no_reduction}
+use Rattle.dd_discharge.proofs.Multiples.{own_reduction, other_reduction}
 use Rattle.dd_discharge.proofs.check.is_in_lowest_terms.Goals as goal
 
 pub returns-in-Some : goal.returns-in-Some
@@ -16,5 +16,5 @@ returns-in-Some c =
     let den : c.unsigned_abs.result ≡ c.in-Some.reduced.den = c.unsigned_abs.ensures.value ∙ ap unsigned_abs (to_z-of_z w128 c.den.result fits ∙ c.den.ensures.value) in
     record {
       yes = λ h. own_reduction c.args.numerator c.args.denominator c.in-Some.reduced made (sym den ∙ eqb-true c.unsigned_abs.result c.args.denominator h);
-      no = λ h. no_reduction c.args.numerator c.args.denominator c.in-Some.reduced made (λ e. eqb-false c.unsigned_abs.result c.args.denominator h (den ∙ e));
+      no = λ h. other_reduction c.args.numerator c.args.denominator c.in-Some.reduced made (λ e. eqb-false c.unsigned_abs.result c.args.denominator h (den ∙ e));
     }

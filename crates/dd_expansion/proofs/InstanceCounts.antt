@@ -19,24 +19,24 @@ sum_by-map f h (x ∷ xs) =
     sum_by-cons f (h x) (map h xs) ∙ (ap (λ n. f (h x) + n) (sum_by-map f h xs) ∙ sym (sum_by-cons (λ x. f (h x)) x xs))
 
 module _ (es : List Edge) (n : ℕ) (env : List Cell) where
-  pub nodes_and : (fs : List Formula) → instances (expansion es n (formula.And fs) env) ≡ 1 + sum_by (λ f. instances (expansion es n f env)) fs
-  nodes_and fs =
+  pub size_and : (fs : List Formula) → instances (expansion es n (formula.And fs) env) ≡ 1 + sum_by (λ f. instances (expansion es n f env)) fs
+  size_and fs =
       ap instances (expansion_and es n fs env) ∙ (instances_and (map (λ f. expansion es n f env) fs) ∙ ap (λ m. 1 + m) (sum_by-map instances (λ f. expansion es n f env) fs))
 
-  pub nodes_or : (fs : List Formula) → instances (expansion es n (formula.Or fs) env) ≡ 1 + sum_by (λ f. instances (expansion es n f env)) fs
-  nodes_or fs =
+  pub size_or : (fs : List Formula) → instances (expansion es n (formula.Or fs) env) ≡ 1 + sum_by (λ f. instances (expansion es n f env)) fs
+  size_or fs =
       ap instances (expansion_or es n fs env) ∙ (instances_or (map (λ f. expansion es n f env) fs) ∙ ap (λ m. 1 + m) (sum_by-map instances (λ f. expansion es n f env) fs))
 
-  pub nodes_for_all : (bs : List BallOf) (f : Formula) →
+  pub size_for_all : (bs : List BallOf) (f : Formula) →
       instances (expansion es n (formula.ForAll bs f) env) ≡ 1 + sum_by (λ c. instances (expansion es n f (env ++ c ∷ []))) (in_order (balls_of es env bs))
-  nodes_for_all bs f =
+  size_for_all bs f =
       let at = λ (c : Cell). expansion es n f (env ++ c ∷ []) in
       let cells = in_order (balls_of es env bs) in
       ap instances (expansion_for_all es n bs f env) ∙ (instances_and (map at cells) ∙ ap (λ m. 1 + m) (sum_by-map instances at cells))
 
-  pub nodes_exists : (bs : List BallOf) (f : Formula) →
+  pub size_exists : (bs : List BallOf) (f : Formula) →
       instances (expansion es n (formula.Exists bs f) env) ≡ 1 + sum_by (λ c. instances (expansion es n f (env ++ c ∷ []))) (in_order (balls_of es env bs))
-  nodes_exists bs f =
+  size_exists bs f =
       let at = λ (c : Cell). expansion es n f (env ++ c ∷ []) in
       let cells = in_order (balls_of es env bs) in
       ap instances (expansion_exists es n bs f env) ∙ (instances_or (map at cells) ∙ ap (λ m. 1 + m) (sum_by-map instances at cells))
@@ -53,19 +53,19 @@ module _ (es : List Edge) (n : ℕ) (env : List Cell) where
   expansion_iff f g =
       ap (λ h. expansion es n h env) (sym (formula.rolls-Iff f g)) ∙ ap (λ x. x env) (fold-roll-Formula Expansion (expansion_step es n) (Formula-F.Iff f g))
 
-  pub nodes_not : (f : Formula) → instances (expansion es n (formula.Not f) env) ≡ 1 + instances (expansion es n f env)
-  nodes_not f = ap instances (expansion_not f) ∙ fold-roll-Expanded ℕ instances_step (Expanded-F.Not (expansion es n f env))
+  pub size_not : (f : Formula) → instances (expansion es n (formula.Not f) env) ≡ 1 + instances (expansion es n f env)
+  size_not f = ap instances (expansion_not f) ∙ fold-roll-Expanded ℕ instances_step (Expanded-F.Not (expansion es n f env))
 
-  pub nodes_implies : (f g : Formula) → instances (expansion es n (formula.Implies f g) env) ≡ 2 + (instances (expansion es n f env) + instances (expansion es n g env))
-  nodes_implies f g =
+  pub size_implies : (f g : Formula) → instances (expansion es n (formula.Implies f g) env) ≡ 2 + (instances (expansion es n f env) + instances (expansion es n g env))
+  size_implies f g =
       let x = expansion es n f env in
       let y = expansion es n g env in
       let whole = ap instances (expansion_implies f g) ∙ fold-roll-Expanded ℕ instances_step (Expanded-F.Or (negated x ∷ y ∷ [])) in
       let first = fold-roll-Expanded ℕ instances_step (Expanded-F.Not x) in
       omega (arith, whole, first)
 
-  pub nodes_iff : (f g : Formula) → instances (expansion es n (formula.Iff f g) env) ≡ 1 + (instances (expansion es n f env) + instances (expansion es n g env))
-  nodes_iff f g = ap instances (expansion_iff f g) ∙ fold-roll-Expanded ℕ instances_step (Expanded-F.Iff (expansion es n f env) (expansion es n g env))
+  pub size_iff : (f g : Formula) → instances (expansion es n (formula.Iff f g) env) ≡ 1 + (instances (expansion es n f env) + instances (expansion es n g env))
+  size_iff f g = ap instances (expansion_iff f g) ∙ fold-roll-Expanded ℕ instances_step (Expanded-F.Iff (expansion es n f env) (expansion es n g env))
 
 -- `formula_fits` gives a disjunction the same value as the conjunction of the same parts, and an existential formula the same value as the universal
 -- one with the same balls and body. The lemmas after this module say the same of their depths.
@@ -93,13 +93,13 @@ pub ruleset expansion_layers = (
   expansion_not,
   expansion_implies,
   expansion_iff,
-  nodes_and,
-  nodes_or,
-  nodes_for_all,
-  nodes_exists,
-  nodes_not,
-  nodes_implies,
-  nodes_iff,
+  size_and,
+  size_or,
+  size_for_all,
+  size_exists,
+  size_not,
+  size_implies,
+  size_iff,
   fits_or_alike,
   fits_exists_alike,
   depth_or_alike,
