@@ -37,7 +37,7 @@ discharge_is x radius margin vs ws pivots a (is_large h) = too_large
 discharge_is x radius margin vs ws pivots a (overflows h) = overflow
 discharge_is x radius margin vs ws pivots a (used_up h) = no_pivots
 
--- a configuration of allowed symbols that has the torus's periods and no shear and obeys the rule can be read back from its symbols
+-- if a configuration of allowed symbols obeys the rule and has the torus's periods and no shear, it can be read back from its symbols
 torus_same : (x : LocalRule) (along : List ℕ) (t : Tile) → IsLiving x (periods_of along 0) t → t ≡ torus_tile x along t.symbols
 torus_same x along t lives =
     let dimension : t.dimension ≡ x.dimension = lives.1.fits.dimension in

@@ -1,8 +1,8 @@
-//! Right answers to the queries of scripts. A script defines rules, configurations and automata, and asks queries about them
+//! Right answers to the queries of scripts. A script defines rules, configurations and automata, and poses queries about them
 //! (see `dd_script`). The question of a query holds the rules, configurations and automata that the query names. The first line
-//! of an answer says the result, or its length if it is a list of patterns. The lines after the first, if there are any, are
-//! the evidence, or the patterns of the list. The answer UNKNOWN is right if its query isn't settled within the limits on the
-//! work for one answer and on the size of numbers.
+//! of an answer gives the result or, if the result is a list of patterns, the length of this list. The lines after the first,
+//! if there are any, are the evidence, or the patterns of the list. The answer UNKNOWN is right if its query isn't settled
+//! within the limits on the work for one answer and on the size of numbers.
 //!
 //! Some queries come down to box questions. A box question has a rule and a goal: a property of a position, such as that
 //! another rule is broken there. It asks whether no configuration that obeys the rule has the goal at any position. It is

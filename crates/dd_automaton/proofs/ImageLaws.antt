@@ -65,9 +65,9 @@ tile_is_below n t h c = by (nat_lt c.node t.nodes)
     by true = below_at n t.symbols h (tile_index t c)
     by false = tt
 
--- Let s be a dimension, a number of nodes and the size of an alphabet, with the configuration's number of nodes. Let each cell of a list be near the
--- origin (`is_near`) and be a cell of s (`is_cell_of`). Then each of these cells, shifted by the position of a cell of the box, has coordinates of at
--- most 2^20 in absolute value, and has a symbol.
+-- Let s be a dimension, the configuration's number of nodes and the size of an alphabet. Let each cell of a list be near the origin (`is_near`) and
+-- be a cell of s (`is_cell_of`). Then each of these cells, shifted by the position of a cell of the box, has coordinates of at most 2^20 in absolute
+-- value, and has a symbol.
 pub given_all : (t : Tile) (s : CommonNumbers) → IsPeriodic t → s.nodes ≡ t.nodes → (c : Cell) → IsInBox t c → (ds : List Cell) → list_all is_near ds ≡ true → list_all (is_cell_of s) ds ≡ true →
     are_given (tile_look t) c.position ds ≡ true
 given_all t s ok same c h [] near placed = refl
@@ -145,7 +145,8 @@ value_more h xs ys x n is long here before k below =
     by (inl same) = get_last xs x k (omega (arith, long, same)) ∙ ap Some (here ∙ ap h (sym same))
     by (inr less) = get_before xs x k (omega (arith, long, less)) ∙ before k less
 
--- if d, ps, shear and n are the dimension, periods, shear and number of nodes of t, a configuration made from them has those of t
+-- if d, ps, shear and n are the dimension, periods, shear and number of nodes of t, the tile made from them and ss is the tile with the dimension,
+-- periods and nodes of t and the symbols ss
 pub tile_again : (t : Tile) (d shear n : ℕ) (ps ss : List ℕ) → d ≡ t.dimension → ps ≡ t.periods.x ∷ t.periods.y ∷ t.periods.z ∷ [] → shear ≡ t.periods.shear → n ≡ t.nodes →
     tile d (periods_of ps shear) n ss ≡ tile t.dimension t.periods t.nodes ss
 tile_again t d shear n ps ss one two three four =

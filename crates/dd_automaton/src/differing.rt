@@ -10,7 +10,7 @@ use dd_lattice::{Cell, Position};
 use dd_pattern::Periodic;
 use std::alloc::{AllocError, Global};
 
-/// The symbol that the automaton gives the cell at the origin with this node.
+/// The symbol that the automaton gives the cell with this node at the origin.
 fn value_at_origin(
     alloc: Global,
     automaton: &Automaton,
@@ -21,7 +21,7 @@ fn value_at_origin(
     requires node { node < periodic.now.nodes }
     ensures { IfOk result (λ s. s ≡ value automaton.now (tile_look periodic.now) (origin_at node)) }
 {
-    // This call tells the proof that the automaton reads only cells whose nodes the configuration has.
+    // This call tells the proof that each cell that the automaton reads has one of the configuration's nodes.
     automaton.reads_are_placed();
     // This call tells the proof that the configuration has a symbol for each cell of its fundamental box.
     let _symbols = periodic.symbols();

@@ -7,8 +7,8 @@ use dd_pattern::Periodic;
 use std::alloc::{AllocError, Global};
 
 /// The image of the configuration under the automaton. It has the automaton's value at every cell, and the configuration's
-/// periods and shear. A node may allow only some symbols, and a value may be a symbol that the cell's node doesn't allow. The
-/// automaton must be well formed over the configuration's dimension and number of nodes and over an alphabet that has all
+/// periods and shear. If a node allows only some of the symbols, the value at a cell with this node may still be another one.
+/// The automaton must be well formed over the configuration's dimension and number of nodes and over an alphabet that has all
 /// symbols of the configuration.
 ///
 /// # Errors
@@ -24,7 +24,7 @@ pub fn apply(
     match automaton {
         Automaton::Given(cases) => image_by_cases(alloc, cases, periodic),
         Automaton::Composed(outer, inner) => {
-            // This call tells the proof that the outer automaton reads only cells whose nodes the configuration has.
+            // This call tells the proof that each cell that the outer automaton reads has one of the configuration's nodes.
             outer.get().reads_are_placed();
             let between = apply(alloc, inner.get(), periodic)?;
             apply(alloc, outer.get(), &between)
@@ -37,7 +37,7 @@ fn image_by_cases(alloc: Global, cases: &Cases, periodic: &Periodic) -> Result<P
     requires { IsDefinedOn (Automaton.Given cases.now) periodic.now }
     ensures { IfOk result (IsImage (Automaton.Given cases.now) periodic.now) }
 {
-    // This call tells the proof that the rules read only cells whose nodes the configuration has.
+    // This call tells the proof that each cell that the rules read has one of the configuration's nodes.
     cases.reads_are_placed();
     let count = periodic.symbols().len();
     let mut symbols = Vec::with_capacity(alloc, count)?;

@@ -17,11 +17,11 @@ abbrev pub Suffices : LocalRule → GoalOf → ℕ → Type 0
 Suffices x g n = (look : Look) → IsBoxFilling x n look → Admissible x look → HasGoal g look origin → ⊥
 
 -- B(n) contains each cell that the goal reads at the origin
-abbrev pub Reaches : GoalOf → ℕ → Type 0
-Reaches (breaks y) n = (a : ℕ) → a < y.nodes → list_all (is_box_cell y n) (reads_at y a) ≡ true
-Reaches (differ s f g) n =
+abbrev pub ReadsWithin : GoalOf → ℕ → Type 0
+ReadsWithin (breaks y) n = (a : ℕ) → a < y.nodes → list_all (is_box_cell y n) (reads_at y a) ≡ true
+ReadsWithin (differ s f g) n =
     (a : ℕ) → a < s.nodes → (list_all (is_cell_within s n) ((counted f).reads a) ≡ true) × (list_all (is_cell_within s n) ((counted g).reads a) ≡ true)
-Reaches always n = Unit {0}
+ReadsWithin always n = Unit {0}
 
 -- how far a goal reads from the origin
 abbrev pub goal_reach : GoalOf → ℕ
@@ -31,8 +31,8 @@ goal_reach always = 0
 
 -- B(n) contains each cell that the goal reads at the origin, and no smaller box does
 pub record IsLeastRadius (g : GoalOf) (n : ℕ) : Type 0 where
-  pub reaches : Reaches g n
-  pub least : (k : ℕ) → Reaches g k → n ≤ k
+  pub reaches : ReadsWithin g n
+  pub least : (k : ℕ) → ReadsWithin g k → n ≤ k
 
 -- the look-up covers the box of radius n round v: it gives a symbol to each cell of B(n), moved by v
 abbrev pub Covers : LocalRule → ℕ → Look → Place → Type 0
@@ -41,7 +41,7 @@ Covers x n look v = (c : Cell) → is_box_cell x n c ≡ true → is_some (look 
 -- B(n) contains what the goal reads at the origin. If an admissible filling covers the box of radius n round a position v of Z^d,
 -- it does not have the goal at v.
 pub record Never (x : LocalRule) (g : GoalOf) (n : ℕ) : Type 0 where
-  pub reaches : Reaches g n
+  pub reaches : ReadsWithin g n
   pub nowhere : (look : Look) → AreAllowed x look → Admissible x look → (v : Place) → is_flat x.dimension v ≡ true → Covers x n look v → HasGoal g look v → ⊥
 
 -- no configuration that obeys the rule at every cell of Z^d has the goal at any position of Z^d

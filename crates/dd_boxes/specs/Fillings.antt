@@ -8,13 +8,13 @@ use Rattle.dd_expansion.specs.Placed.{is_flat}
 use Rattle.dd_formula.specs.{LocalRule.LocalRule, LocalRule.is_true, LocalRule.reads_at, Allowed.AreAllowed, Automata.CommonNumbers}
 
 -- the rule fits at the cell: the cell, and each cell that the rule reads there, has a symbol
-abbrev pub place_fits : LocalRule → Look → Cell → Bool
-place_fits x look c = is_some (look c) && list_all (λ d. is_some (look (shifted c.position d))) (reads_at x c.node)
+abbrev pub rule_fits : LocalRule → Look → Cell → Bool
+rule_fits x look c = is_some (look c) && list_all (λ d. is_some (look (shifted c.position d))) (reads_at x c.node)
 
 -- the filling is admissible: the rule is true at each cell of Z^d where it fits
 abbrev pub Admissible : LocalRule → Look → Type 0
 Admissible x look =
-    (v : Place) (a : ℕ) → is_flat x.dimension v ≡ true → a < x.nodes → place_fits x look (cell v a) ≡ true → is_true x (cell v a) look ≡ true
+    (v : Place) (a : ℕ) → is_flat x.dimension v ≡ true → a < x.nodes → rule_fits x look (cell v a) ≡ true → is_true x (cell v a) look ≡ true
 
 -- the coordinate is at most n in absolute value
 abbrev pub is_up_to : ℕ → ℤ → Bool

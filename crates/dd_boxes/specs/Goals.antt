@@ -41,7 +41,7 @@ IsGoalFor x (differ s f g) = AreOver x s f g
 IsGoalFor x always = Unit {0}
 
 -- the goal's rule, if the goal has one, satisfies the invariant of rules
-abbrev pub KeepsRule : GoalOf → Type 0
-KeepsRule (breaks y) = IsRule y
-KeepsRule (differ s f g) = Unit {0}
-KeepsRule always = Unit {0}
+abbrev pub HasValidRule : GoalOf → Type 0
+HasValidRule (breaks y) = IsRule y
+HasValidRule (differ s f g) = Unit {0}
+HasValidRule always = Unit {0}

@@ -3,7 +3,7 @@ use Rattle.dd_formula.specs.{LocalRule.LocalRule, Automata.CommonNumbers}
 use Rattle.dd_boxes.specs.{Goals.GoalOf, Goals.breaks, Goals.differ, Goals.always, Goals.IsGoalFor, declared.goals.Goal.Goal}
 use Rattle.dd_boxes.specs.declared.goals.Goal.TheVariants.{Breaks, Differ, Always}
 
--- the rule's dimension, number of nodes and size of the alphabet
+-- the rule's dimension, number of nodes and alphabet size
 abbrev pub numbers_of : LocalRule → CommonNumbers
 numbers_of x = record { dimension = x.dimension; nodes = x.nodes; symbols = x.symbols }
 

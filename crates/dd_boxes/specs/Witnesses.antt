@@ -23,6 +23,6 @@ pub record IsWitness (x : LocalRule) (g : GoalOf) (t : Tile) : Type 0 where
 abbrev pub HasPeriods : Periods → Tile → Type 0
 HasPeriods p t = t.periods ≡ p
 
--- periods in d dimensions, each at most `greatest_period`, the highest limit on the periods that the search tries
+-- periods in d dimensions, each at most `greatest_period`, the highest limit that a script may set on the periods that the search tries
 abbrev pub ArePeriods : ℕ → Periods → Type 0
 ArePeriods d p = AreWithin d greatest_period p

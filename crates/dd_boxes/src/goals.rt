@@ -2,7 +2,7 @@
 //! cells that these read. The value of an automaton at a cell is the symbol that it gives this cell.
 ghost use Rattle.std.specs.Prelude.{IfOk};
 ghost use Rattle.dd_boxes.specs.Boxes.{IsLeastRadius};
-ghost use Rattle.dd_boxes.specs.Goals.{IsGoalFor, KeepsRule};
+ghost use Rattle.dd_boxes.specs.Goals.{IsGoalFor, HasValidRule};
 ghost use Rattle.dd_boxes.specs.Views.{goal_of, IsGoal};
 ghost use Rattle.dd_formula.specs.LocalRule.{LocalRule, IsRule};
 
@@ -22,7 +22,7 @@ pub enum Goal<'a> {
 
 /// Does nothing. Its contract says that the goal's rule, if the goal has one, satisfies the invariant of rules.
 pub fn keeps_rule(goal: &Goal)
-    ensures { (x : LocalRule) → KeepsRule (goal_of x goal.now) }
+    ensures { (x : LocalRule) → HasValidRule (goal_of x goal.now) }
 {
     match goal {
         Goal::Breaks(rule) => {

@@ -1,4 +1,5 @@
-//! Answers to queries. Each has its certificate, which is all that is needed to check the answer without a search.
+//! Answers to queries. An answer that claims something comes with its certificate, which is all that is needed to check the
+//! answer without a search.
 use dd_derivation::Step;
 use dd_values::Items;
 
@@ -24,7 +25,7 @@ pub enum Reason {
     Large,
     /// A number became too large, in a step of the simplex method or in its result.
     Overflow,
-    /// The simplex method has not ended after as many pivots as the script allows.
+    /// The simplex method did not end within the number of pivots that the script allows.
     Pivots,
 }
 
@@ -93,7 +94,7 @@ pub enum Answer {
     Unknown {
         reason: Reason,
     },
-    /// For each node, the patterns with allowed symbols that the rule forbids there.
+    /// For each node, the patterns that the rule forbids there and whose symbols are allowed.
     List {
         patterns: Items<Listed>,
     },

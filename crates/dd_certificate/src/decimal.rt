@@ -7,8 +7,8 @@ use std::alloc::AllocError;
 /// How many decimal digits a number of 64 bits has at most.
 const MOST_DIGITS: usize = 20;
 
-/// Writes the decimal digits of a number, without a leading zero, to the first `MOST_DIGITS` of 21 bytes. The last digit gets
-/// the index 19. The byte after it stays as it is. Returns the index of the first digit.
+/// Writes the decimal digits of a number, without a leading zero, into a list of 21 bytes. The last digit has index 19. The
+/// byte after it stays as it is. Returns the index of the first digit.
 fn write_digits(digits: &mut [u8], number: u64) -> usize
     requires { length digits.old ≡ 21 }
     ensures within { result ≤ 20 }

@@ -33,11 +33,11 @@ pub(crate) fn query_certified(script: &Script, query: &Query)
     }
 }
 
-/// Changes nothing. Its contract says that the claim of each certificate for a query of the script is true. For example, each
-/// symbol has a weight, and the answer BOUND gives a lower bound for the weight per position. It does so by means of a
-/// discharge, which is a plan for moving weight between positions. Its claim covers boxes of every side length at every
-/// position. In each configuration that obeys the rule, such a box weighs at least the number of its positions times the bound,
-/// less what it may receive from outside under the plan.
+/// Changes nothing. Its contract says that the claim of each certificate for a query of the script is true. For example, let
+/// each symbol have a weight. The answer BOUND to a query about a rule gives a lower bound for the weight per position. It does
+/// so by means of a discharge, which is a plan for moving weight between positions. The claim of BOUND covers boxes of every
+/// side length at every position. In each configuration that obeys the rule, such a box weighs at least the number of its
+/// positions times the bound, less what it may receive from outside under the plan.
 pub fn certified(script: &Script)
     ensures { (number : ℕ) (answer : AnyAnswer) → IsCertificate script.now number answer → Claim script.now number answer }
 {
@@ -72,8 +72,8 @@ pub fn lifted<C: Configuration>(
 
 /// Changes nothing and allocates nothing. Its contract says what a CONJUGATE means for any configuration, periodic or not. The
 /// configuration must have the script's number of nodes, and give each cell a symbol that the cell's node allows. `_place` must
-/// be a position of Z^d. The CONJUGATE must be a certificate for the query with the number `_query`, counted from 1 (0 counts
-/// as 1), which must be about a conjugacy. If the configuration obeys the first rule of the query, then at each node of
+/// be a position of Z^d. The query with the number `_query`, counted from 1 (0 counts as 1), must be about a conjugacy, and the
+/// CONJUGATE must be a certificate for it. If the configuration obeys the first rule of the query, then at each node of
 /// `_place`:
 /// - in the image under the first automaton, the symbol is allowed and the second rule is true;
 /// - in the image of this image under the second automaton, the symbol is the configuration's own.

@@ -1,8 +1,8 @@
-//! Checks answers to the queries of scripts. A script defines rules, configurations and automata, and asks queries about them.
-//! A certificate is an answer with all that is needed to check it without a search. In this crate, a certificate for a query
-//! must also be an answer that an output can hold: its numbers and lists are within the bounds that `dd_certificate` states.
-//! The specs say which answers are certificates, and what a certificate claims. An answer is accepted exactly when it is a
-//! certificate for its query. The check makes no search for an answer, and trusts no search that was made.
+//! Checks answers to the queries of scripts. A script defines rules, configurations and automata, and contains queries about
+//! them. A certificate is an answer with all that is needed to check it without a search. In this crate, a certificate for a
+//! query must also be an answer that an output can hold: its numbers and lists are within the bounds that `dd_certificate`
+//! states. The specs say which answers are certificates, and what a certificate claims. An answer is accepted exactly when it
+//! is a certificate for its query. The check doesn't search for an answer, and doesn't rely on any earlier search.
 //!
 //! Each position of Z^d has the same number of nodes, one or more. A cell is a position together with one of its nodes. A
 //! configuration gives a symbol to each cell. A rule is a formula about a cell and the cells near it. It is broken at a
@@ -11,7 +11,7 @@
 //!
 //! Some queries ask box questions. A box question has a rule, which is called its premise, and a goal: a property of a
 //! position, such as that another rule is broken there. It asks whether no configuration that obeys the premise has the goal at
-//! any position. A query about equality asks whether the same configurations obey two rules. Such a query asks two box
+//! any position. A query about equality asks whether two rules are obeyed by the same configurations. Such a query asks two box
 //! questions. A query about an image asks whether an automaton maps the configurations that obey one rule to configurations
 //! that obey another. Such a query asks one box question. A query about a conjugacy asks whether two automata are inverse maps
 //! between the configurations that obey one rule and those that obey another. Such a query asks four box questions. The answer

@@ -63,7 +63,7 @@ impl Model for Circuit {
 }
 
 impl Circuit {
-    /// A circuit with at most 2^24 inputs and no gates. It allocates nothing until a gate is added.
+    /// A circuit with this many inputs, at most 2^24, and no gates. It allocates nothing until a gate is added.
     pub fn new(alloc: Global, inputs: u32) -> Circuit
         requires { inputs ≤ most_variables }
         ensures inputs { result.inputs ≡ inputs }

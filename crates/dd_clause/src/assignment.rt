@@ -1,4 +1,4 @@
-//! Assignments of truth values, and the check whether an assignment satisfies a clause list.
+//! Assignments of truth values, and the check of whether an assignment satisfies a clause list.
 ghost use Rattle.std.specs.Prelude.{◌≡◌, ◌↔◌, length, IsTrue};
 ghost use Rattle.dd_clause.specs.Clauses.{IsClauseInRange, is_clause_true, Satisfies};
 ghost use Rattle.dd_values.specs.Variables.{true_variables};

@@ -24,8 +24,8 @@ clauses_step before now new n variable gs i g within here number so_far pushed =
     rw (pushed, so_far, number, gates_clauses-more n gs i g within here)
     (append_assoc before (gates_clauses n (take i gs)) (gate_clauses (suc (n + i)) g))
 
--- the last clause of an And or Or gate, as far as it has been made, is over the variables 1..n: it has the gate's literal and those of the first i
--- members
+-- the last clause of an And or Or gate, as far as it has been made, is over the variables 1..n: it has the gate's literal and, for each of the first
+-- i members l, the literal `signed sign l`
 pub last_in_range : (n : ℕ) (gate : Literal) (sign : Bool) (members : List Signal) (literals : List Literal) (i : ℕ) →
     literals ≡ gate ∷ map (signed sign) (take i members) → IsLiteralInRange n gate → All (IsSignal n) members → IsClauseInRange n literals
 last_in_range n gate sign members literals i is first rest =

@@ -36,7 +36,7 @@ fn signed(signal: &Signal, sign: bool) -> Literal
     }
 }
 
-/// Adds one clause, which has these literals. If memory runs out, the clause list is unchanged.
+/// Adds the clause with these literals. If memory runs out, the clause list is unchanged.
 pub fn push_clause(alloc: Global, cnf: &mut Cnf, literals: &[Literal]) -> Result<(), AllocError>
     requires { IsClauseInRange cnf.old.variables literals.now }
     ensures variables { cnf.new.variables ≡ cnf.old.variables }

@@ -1,5 +1,5 @@
-//! Circuits as clauses. In a circuit, a signal is a variable or its negation. A gate combines signals, its members. An
-//! assignment satisfies the clauses of a circuit exactly when it gives each gate's variable the value of the gate.
+//! Circuits as clauses. In a circuit, a signal is a variable or its negation. A gate combines signals, which are its members.
+//! An assignment satisfies the clauses of a circuit exactly when it gives each gate's variable the value of the gate.
 #![tactic(auto)]
 
 mod encoding;

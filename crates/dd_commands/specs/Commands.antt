@@ -3,7 +3,7 @@
 use Rattle.std.specs.Prelude.{◌≡◌, ℕ, ◌≤◌, List, [], ◌∷◌, ◌++◌, length, map, Bool, true, false, Option, Some, None, codes}
 use Rattle.std.specs.List.{flat_map, list_all}
 use Rattle.dd_commands.specs.Tree.{Word, Mark, Lexeme, Name, Lists, Entry, Vector, Edge, Case, Request, Command}
-use Rattle.dd_commands.specs.{Table.row, Heads.head_text, Heads.head_of, Heads.kind_text}
+use Rattle.dd_commands.specs.{Table.row, Heads.head_text, Heads.head_of, Heads.topology_text}
 use Rattle.dd_written.specs.{Values.word_text, Formulas.name_lexeme, Formulas.text, Formulas.IsWrittenFormula, reading.Readers.ReadsAll}
 
 -- ---- vectors
@@ -56,7 +56,7 @@ pub record AreCases (bytes : List ℕ) (cases : List Case) (default : Name) (tok
 
 -- ---- queries
 
--- the list is one vector without negative numbers
+-- the list has exactly one vector, and this vector has no negative number
 abbrev pub IsOnePlain : List Vector → Type 0
 IsOnePlain vs = (v : Vector) × (vs ≡ v ∷ []) × (is_plain v ≡ true)
 
@@ -83,7 +83,7 @@ abbrev pub IsBody : List ℕ → Command → List Lexeme → Type 0
 IsBody bytes (Command.Dimension n) tokens = tokens ≡ Lexeme.Number n ∷ []
 IsBody bytes (Command.Nodes names) tokens = (1 ≤ length names) × (tokens ≡ map name_lexeme names)
 IsBody bytes (Command.Alphabet names) tokens = (1 ≤ length names) × (tokens ≡ map name_lexeme names)
-IsBody bytes (Command.Topology k) tokens = BeginsWith bytes (kind_text k) tokens []
+IsBody bytes (Command.Topology k) tokens = BeginsWith bytes (topology_text k) tokens []
 IsBody bytes (Command.Edges edges) tokens = (1 ≤ length edges) × (tokens ≡ flat_map edge_text edges)
 IsBody bytes (Command.Only node symbols) tokens = (1 ≤ length symbols) × (tokens ≡ name_lexeme node ∷ map name_lexeme symbols)
 IsBody bytes (Command.Weights ns) tokens = (1 ≤ length ns) × (tokens ≡ map Lexeme.Number ns)

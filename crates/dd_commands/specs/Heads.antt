@@ -57,10 +57,10 @@ head_of (Command.Composition name outer inner) = Head.Composition
 head_of (Command.Configuration name periods shear symbols) = Head.Configuration
 head_of (Command.Query r) = Head.Query r.kind
 
-abbrev pub kind_text : Kind → List ℕ
-kind_text Kind.Line = codes "line"
-kind_text Kind.Square = codes "square"
-kind_text Kind.King = codes "king"
-kind_text Kind.Triangle = codes "triangle"
-kind_text Kind.Hex = codes "hex"
-kind_text Kind.Cube = codes "cube"
+abbrev pub topology_text : Kind → List ℕ
+topology_text Kind.Line = codes "line"
+topology_text Kind.Square = codes "square"
+topology_text Kind.King = codes "king"
+topology_text Kind.Triangle = codes "triangle"
+topology_text Kind.Hex = codes "hex"
+topology_text Kind.Cube = codes "cube"

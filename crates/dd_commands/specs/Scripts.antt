@@ -5,7 +5,7 @@ use Rattle.dd_commands.specs.Tree.{Mark, Lexeme, Written, Syntax, SyntaxFault}
 use Rattle.dd_commands.specs.{Heads.head_of, Heads.stage, Heads.next_stage, Commands.IsCommand}
 use Rattle.dd_written.specs.Lexemes.{lexemes_of}
 
--- whether the mark is `%`, which stands before each command
+-- whether the mark is `%`, with which each command begins
 abbrev pub is_percent_mark : Mark → Bool
 is_percent_mark Mark.Percent = true
 is_percent_mark Mark.All = false

@@ -103,7 +103,7 @@ pub enum Command {
         inner: Word,
     },
     /// `conf name [period ..] [shear ..] symbol ..`: a periodic configuration. The second vector, the shear, may be left out.
-    /// How many numbers a vector has isn't limited here. Neither vector has a negative number. The symbols are those of the box
+    /// Here a vector may have any number of entries. Neither vector has a negative number. The symbols are those of the box
     /// that repeats, in cell order: by z, then y, then x, then the node.
     Configuration {
         name: Word,

@@ -1,7 +1,7 @@
 //! The first words of commands, the order of commands, and the names of the built-in topologies.
 ghost use Rattle.std.specs.Prelude.{◌≡◌, ◌≤◌};
 ghost use Rattle.dd_written.specs.reading.Readers.{Gives};
-ghost use Rattle.dd_commands.specs.Heads.{head_row, head_text, next_stage, kind_text};
+ghost use Rattle.dd_commands.specs.Heads.{head_row, head_text, next_stage, topology_text};
 ghost use Rattle.dd_commands.specs.Table.{kind_word, query_kinds};
 ghost use Rattle.dd_commands.specs.reading.Commands.{one_of, keyword, heads, other_heads, kinds, wanted};
 
@@ -105,8 +105,8 @@ impl FromTokens for Head {
 }
 
 /// The name of a built-in topology.
-fn kind_text(kind: Kind) -> &'static [u8]
-    ensures { result.now ≡ kind_text kind }
+fn topology_text(kind: Kind) -> &'static [u8]
+    ensures { result.now ≡ topology_text kind }
 {
     match kind {
         Line => b"line",
@@ -120,16 +120,16 @@ fn kind_text(kind: Kind) -> &'static [u8]
 
 /// The built-in topology with this name.
 fn kind(written: &[u8]) -> Option<Kind>
-    ensures { result ≡ one_of kind_text kinds written.now }
+    ensures { result ≡ one_of topology_text kinds written.now }
 {
     KINDS
         .iter()
         .copied()
-        .find(|kind| same_bytes(written, kind_text(*kind)))
+        .find(|kind| same_bytes(written, topology_text(*kind)))
 }
 
 impl FromTokens for Kind {
-    ghost item = { λ bytes. keyword kind_text kinds bytes };
+    ghost item = { λ bytes. keyword topology_text kinds bytes };
 
     fn read<'a>(from: Source, tokens: &'a [Lexeme]) -> Read<'a, Kind> {
         let (word, rest) = Word::read(from, tokens)?;

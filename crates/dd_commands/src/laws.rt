@@ -1,4 +1,4 @@
-//! Laws of syntax trees and syntax faults, as contracts of calls that do nothing. A syntax fault is the number of the first
+//! Laws of syntax trees and syntax faults, as contracts of functions that do nothing. A syntax fault is the number of the first
 //! command that is not well formed, or 0 if some token stands before the first `%`.
 #![tactic(auto, using(crate::proofs::OneTree::one_tree, crate::proofs::OneTree::one_fault, crate::proofs::OneTree::tree_or_fault))]
 

@@ -121,8 +121,8 @@ found_wired circuit w k g c o found =
     ap (are_signals (size circuit) k) found.1
     ∙ and_from (length ss == k) (list_all (is_signal (size circuit)) ss) (eq-eqb (length ss) k found.2.says.one_each) (all_signals (size circuit) ss found.2.in_range)
 
--- if an assignment tells the symbols that the composition reads, it also tells those that the inner automaton reads at each cell that the outer one
--- reads
+-- if an assignment tells the symbols of the cells that the composition reads, it also tells those of the cells that the inner automaton reads at each
+-- cell that the outer one reads
 inner_tells : (set : ℕ → Bool) (w : Wiring) (f g : Automaton) (at : Cell) (look : Look) →
     TellsCells set w (flat_map (λ (c : Cell). map (shifted c.position) ((counted g).reads c.node)) ((counted f).reads at.node)) at look →
     (d : Cell) → Contains ((counted f).reads at.node) d → TellsCells set w ((counted g).reads d.node) (shifted at.position d) look

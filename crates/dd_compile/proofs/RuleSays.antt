@@ -36,8 +36,8 @@ told n set true None value h tell = absurd (cc)
 told n set true (Some x) value h tell = tell x refl
 told n set false o value h tell = absurd (cc)
 
--- Under every assignment that gives the rule's gates their values and tells the symbols that the rule reads at c, the signal says whether the rule is
--- true at c. The other gates of a circuit don't matter.
+-- Under every assignment that gives the rule's gates their values and tells the symbols of the cells that the rule reads at c, the signal says
+-- whether the rule is true at c. The other gates of a circuit don't matter.
 pub rule_says : (n : ℕ) (w : Wiring) (r : LocalRule) → 1 ≤ r.symbols → (c : Cell) → are_wired n (wires_near w c.position) (expansion_at r c.node) ≡ true →
     (set : ℕ → Bool) (look : Look) → agrees set n (compiled w c.position (expansion_at r c.node) n).gates ≡ true → HasSymbolsBelow r.symbols look → TellsReads set w r c look →
     signal_value set (compiled w c.position (expansion_at r c.node) n).signal ≡ is_true r c look

@@ -18,7 +18,7 @@ use Rattle.dd_compile.specs.Wiring.{Wiring, signals_of}
 use Rattle.dd_compile.specs.Compiling.{AllMade, compiled, are_wired, wires_near}
 use Rattle.dd_compile.specs.RuleSignals.{are_signals, are_reads_wired}
 use Rattle.dd_compile.specs.ValueGates.{fresh, choices, giving, symbol_gates, given_symbols, rules_made, value_made}
-use Rattle.dd_compile.specs.ValueSignals.{TellsCells, CasesSay, SaysValue, are_wired_there}
+use Rattle.dd_compile.specs.ValueSignals.{TellsCells, TellsRules, SaysValue, are_wired_there}
 use Rattle.dd_compile.specs.{Valued.IsMadeValue, Valued.SaysNear, lemmas.RuleWiring.leaves_wired}
 use Rattle.dd_compile.specs.lemmas.CaseGates.{with_first, giving_in_range}
 use Rattle.dd_compile.specs.lemmas.CaseRules.{Steps, value_gates, value_signals, value_in_range, value_says}
@@ -139,7 +139,7 @@ given_says c kept s ok w at n node near wired =
       gates = refl;
       signals_are = refl;
     } in
-    let says : CasesSay one w c at c.cases r.signals =
+    let says : TellsRules one w c at c.cases r.signals =
     λ t set look fits agreed below tells.
     told.says t set look (and_parts (has_all s w at node inner t c.cases) (nat_lt c.otherwise t.symbols) fits).0 (ap (λ m. agrees set m r.gates) whole ∙ agreed) below tells in
     let cases = value_says k c w at start one two new r.signals fs xs ss steps (record { setting = s; fit = fit; below = node; all = refl }) says in

@@ -1,5 +1,5 @@
--- The signals of the cells that a rule reads, and what the signal of the rule's gates says. An assignment, `set`, gives variables their truth
--- values. A look-up, `look`, gives cells symbols of the alphabet.
+-- The signals of the cells that a rule reads, and what the signal of the rule's gates says. An assignment, `set`, gives variables their truth values.
+-- A look-up, `look`, gives symbols of the alphabet to cells.
 use Rattle.std.specs.Prelude.{◌≡◌, ◌==◌, ◌&&◌, if◌then◌else◌, ℕ, Bool, true, false, List, Option, Some, None, length, nat_le}
 use Rattle.std.specs.List.{Contains, list_all}
 use Rattle.dd_lattice.specs.{Place.Place, Place.moved, Place.is_in_range, Cells.shifted, declared.position.Cell.Cell}
@@ -26,15 +26,15 @@ is_cell_wired n k w v d = if is_in_range (moved d.position v) then are_signals n
 abbrev pub are_reads_wired : ℕ → Wiring → LocalRule → Cell → Bool
 are_reads_wired n w r c = list_all (λ d. are_signals n r.symbols (signals_of w (shifted c.position d))) (reads_at r c.node)
 
--- the assignment tells the symbols that the rule reads at c: for each cell that is read there and each symbol, the cell's signal for the symbol says
--- whether `look` gives the cell that symbol
+-- the assignment tells the symbols of the cells that the rule reads at c: for each cell that is read there and each symbol, the cell's signal for the
+-- symbol says whether `look` gives the cell that symbol
 abbrev pub TellsReads : (ℕ → Bool) → Wiring → LocalRule → Cell → Look → Type 0
 TellsReads set w r c look =
     (d : Cell) (s : ℕ) (x : Signal) → Contains (reads_at r c.node) d → wire_of w (shifted c.position d) s ≡ Some x →
     signal_value set x ≡ is_symbol s (look (shifted c.position d))
 
--- Under every assignment that gives the circuit's gates their values and tells the symbols that the rule reads at c, the signal says whether the rule
--- is true at c.
+-- Under every assignment that gives the circuit's gates their values and tells the symbols of the cells that the rule reads at c, the signal says
+-- whether the rule is true at c.
 abbrev pub SaysTruth : Network → Wiring → LocalRule → Cell → Signal → Type 0
 SaysTruth circuit w r c signal =
     (set : ℕ → Bool) (look : Look) → agrees set circuit.inputs circuit.gates ≡ true → HasSymbolsBelow r.symbols look → TellsReads set w r c look →

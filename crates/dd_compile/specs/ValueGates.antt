@@ -20,7 +20,7 @@ abbrev pub rules_made : Wiring → Cell → List (LocalRule × ℕ) → ℕ → 
 rules_made w at cases n = all_made (map (λ case. compiled w at.position (expansion_at case.0 at.node)) cases) n
 
 -- the choices: for each case a gate that says that the case's rule is true and no earlier rule is, and then a gate that says that no rule is true;
--- `before` has the signals of the rules before these
+-- `before` has the signals of the rules that come before these cases
 abbrev pub choices : List Signal → List Signal → List Gate
 choices before [] = And (map opposite before) ∷ []
 choices before (l ∷ ls) = And (l ∷ map opposite before) ∷ choices (before ++ l ∷ []) ls

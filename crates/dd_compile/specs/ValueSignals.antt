@@ -47,10 +47,10 @@ pub record AreCasesWired (n : ℕ) (w : Wiring) (c : Cases) (at : Cell) : Type 0
   pub below : at.node < setting.nodes
   pub wired : are_wired_there n setting.symbols w (cases_reads c.cases at.node) at ≡ true
 
--- Under every assignment that gives the circuit's gates their values and tells the symbols that the cases read at the cell `at`, the signals say, in
--- order, whether the rule of each case in the list `some` is true at `at`.
-abbrev pub CasesSay : Network → Wiring → Cases → Cell → List (LocalRule × ℕ) → List Signal → Type 0
-CasesSay circuit w c at some signals =
+-- Under every assignment that gives the circuit's gates their values and tells the symbols of the cells that the cases read at the cell `at`, the
+-- signals say, in order, whether the rule of each case in the list `some` is true at `at`.
+abbrev pub TellsRules : Network → Wiring → Cases → Cell → List (LocalRule × ℕ) → List Signal → Type 0
+TellsRules circuit w c at some signals =
     (s : CommonNumbers) (set : ℕ → Bool) (look : Look) → cases_fit s c.cases c.otherwise ≡ true → agrees set circuit.inputs circuit.gates ≡ true → HasSymbolsBelow s.symbols look →
     TellsCells set w (cases_reads c.cases at.node) at look → map (signal_value set) signals ≡ map (λ case. is_true case.0 at look) some
 
@@ -64,8 +64,8 @@ pub record SaysCases (circuit : Network) (w : Wiring) (k : ℕ) (cases : Cases) 
   pub says : (set : ℕ → Bool) (look : Look) → agrees set circuit.inputs circuit.gates ≡ true → HasSymbolsBelow k look → TellsCells set w (cases_reads cases.cases c.node) c look →
       SaysWhich set signals (first_case cases.cases cases.otherwise look c)
 
--- Each of k symbols has a signal. Under every assignment that gives the circuit's gates their values and tells the symbols that the automaton reads
--- at c, each symbol's signal says whether that symbol is the automaton's value at c.
+-- Each of k symbols has a signal. Under every assignment that gives the circuit's gates their values and tells the symbols of the cells that the
+-- automaton reads at c, each symbol's signal says whether that symbol is the automaton's value at c.
 pub record SaysValue (circuit : Network) (w : Wiring) (k : ℕ) (f : Automaton) (c : Cell) (signals : List Signal) : Type 0 where
   pub one_each : length signals ≡ k
   pub says : (set : ℕ → Bool) (look : Look) → agrees set circuit.inputs circuit.gates ≡ true → HasSymbolsBelow k look → TellsCells set w ((counted f).reads c.node) c look →

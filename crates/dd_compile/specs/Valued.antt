@@ -10,8 +10,8 @@ use Rattle.dd_compile.specs.{Wiring.Wiring, Compiling.AllMade, ValueGates.value_
 use Rattle.dd_compile.specs.ValueSignals.{TellsCells, SaysWhich, are_wired_there}
 
 -- The gates of m come after n variables, and each gate is over earlier variables. There is a signal for each of k symbols; its variable is one of the
--- n or that of a gate. Under every assignment that gives the gates their values and tells the symbols that the automaton reads at the cell `at`, each
--- signal says whether its symbol is the automaton's value at this cell.
+-- n or that of a gate. Under every assignment that gives the gates their values and tells the symbols of the cells that the automaton reads at the
+-- cell `at`, each signal says whether its symbol is the automaton's value at this cell.
 pub record IsMadeValue (n k : ℕ) (f : Automaton) (w : Wiring) (at : Cell) (m : AllMade) : Type 0 where
   pub gates : AreGates n m.gates
   pub one_each : length m.signals ≡ k
@@ -20,8 +20,8 @@ pub record IsMadeValue (n k : ℕ) (f : Automaton) (w : Wiring) (at : Cell) (m :
       SaysWhich set m.signals (value f look at)
 
 -- Take a cell at least 16 * (d + 1) from the border of the range of positions, where d is the automaton's depth. A composition takes its inner
--- automaton's values at cells at most 16 away, and each automaton by cases reads at most 16 away. So only cells in range are read. If each cell that
--- the automaton reads at this cell has its signals, the gates of the automaton's value are as `IsMadeValue` says.
+-- automaton's values at cells at most 16 away, and each automaton that is given by cases reads cells at most 16 away. So only cells in range are
+-- read. If each cell that the automaton reads at this cell has its signals, the gates of the automaton's value are as `IsMadeValue` says.
 abbrev pub SaysNear : Automaton → Type 0
 SaysNear f =
     (s : CommonNumbers) → IsAutomaton s f → (w : Wiring) (at : Cell) (n : ℕ) → at.node < s.nodes → extent at.position + 16 * (counted f).depth + 16 ≤ most_coordinate →

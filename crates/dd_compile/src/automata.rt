@@ -57,14 +57,14 @@ pub fn compile_value(
 
 /// Does nothing. Its contract is a law: the number of the gates of the automaton's value at a cell is at most the number of
 /// clauses that `value_clauses` counts for the cell's node.
-pub fn value_gates(_automaton: &Automaton, _symbols: u32)
+pub fn value_gates_are_few(_automaton: &Automaton, _symbols: u32)
     ensures { (w : Wiring) (at : Cell) (n : ℕ) →
         length (value_made _symbols _automaton.now w at n).gates ≤ value_clauses _symbols _automaton.now at.node }
 {}
 
 /// The same as `compile_value`, but for each cell at least 16 * (d + 1) from the border of the range of positions, where d is
-/// the automaton's depth (how deep its compositions are nested). A composition takes its inner automaton's values at cells at
-/// most 16 away, and each automaton by cases reads at most 16 away. So only cells in range are read.
+/// the automaton's depth (how deeply its compositions are nested). A composition takes its inner automaton's values at cells at
+/// most 16 away, and each automaton that is given by cases reads cells at most 16 away. So only cells in range are read.
 #[cycle(compile_near)]
 fn compile_near(
     circuit: &mut Circuit,

@@ -1,7 +1,7 @@
 //! The gates of an expansion, and its signal, which says whether the expansion is true. Each constant, conjunction, disjunction
-//! and equivalence has a gate of its own, and its signal is the signal of this gate. Leaves and negations have no gates. A leaf
-//! says that a cell has a certain symbol, and its signal is the wire of that cell and symbol. The signal of a negation is the
-//! opposite of its part's signal.
+//! and equivalence has a gate of its own, and its signal is the signal of this gate. Leaves and negations have no gates of
+//! their own. A leaf says that a cell has a certain symbol, and its signal is the wire of that cell and symbol. The signal of a
+//! negation is the opposite of its part's signal.
 ghost use Rattle.std.specs.Prelude.{◌≡◌, ◌≤◌, ◌+◌, ◌++◌, true, All, IfOk};
 ghost use Rattle.dd_values.specs.Bounds.{most_variables};
 ghost use Rattle.dd_circuit.specs.Circuits.{IsSignal, size};
@@ -32,8 +32,8 @@ fn is_wire(circuit: &Circuit, wire: Option<Signal>) -> bool
     }
 }
 
-/// Whether each leaf of the expansion has its wire: the inputs have a signal of the circuit for the leaf's cell, which is
-/// relative to `at`, and the leaf's symbol.
+/// Whether each leaf of the expansion has its wire: the inputs have a signal of the circuit for the leaf's symbol at the leaf's
+/// cell, which is relative to `at`.
 #[cycle(wired)]
 pub fn is_wired(circuit: &Circuit, expanded: &Expanded, at: &Position, inputs: &Inputs) -> bool
     ensures { result ≡ are_wired (size circuit.now) (wires_near inputs.now at.now) expanded.now }

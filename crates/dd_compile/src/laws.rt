@@ -16,7 +16,7 @@ fn rules_are_kept(cases: &Cases)
 }
 
 /// Does nothing. Its contract is the law of the automaton's value at each cell at least 16 * (d + 1) from the border of the
-/// range of positions, where d is the automaton's depth (how deep its compositions are nested). That is far enough for the
+/// range of positions, where d is the automaton's depth (how deeply its compositions are nested). That is far enough for the
 /// automaton and its parts to read only cells in range.
 fn says_near(automaton: &Automaton)
     ensures { SaysNear automaton.now }

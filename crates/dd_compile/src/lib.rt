@@ -18,7 +18,7 @@
 //!
 //! The value of an automaton at a cell is the symbol that the automaton gives the cell. An automaton is given by cases, or it
 //! is a composition: an outer automaton applied to the image of a configuration under an inner automaton. The counts of an
-//! automaton are the cells that it reads, the number of its instances (a measure of its size) and its depth (how deep its
+//! automaton are the cells that it reads, the number of its instances (a measure of its size) and its depth (how deeply its
 //! compositions are nested).
 #![tactic(auto)]
 
@@ -30,7 +30,7 @@ mod rules;
 mod templates;
 mod values;
 
-pub use automata::{compile_value, value_gates};
+pub use automata::{compile_value, value_gates_are_few};
 pub use compiling::{compile_expanded, is_wired};
 pub use inputs::Inputs;
 pub use laws::says_its_value;

@@ -11,7 +11,7 @@ ghost use Rattle.dd_topology.specs.Topology.{extent};
 ghost use Rattle.dd_circuit.specs.Circuits.{IsSignal, size};
 ghost use Rattle.dd_compile.specs.Compiling.{Extends};
 ghost use Rattle.dd_compile.specs.ValueGates.{choices, fresh, giving, given_symbols, symbol_gates, rules_made, given_made};
-ghost use Rattle.dd_compile.specs.ValueSignals.{HasCasesSymbols, AreCasesWired, CasesSay, SaysCases, are_wired_there};
+ghost use Rattle.dd_compile.specs.ValueSignals.{HasCasesSymbols, AreCasesWired, TellsRules, SaysCases, are_wired_there};
 ghost use Rattle.dd_formula.specs.Automata.{cases_reads};
 
 use crate::inputs::Inputs;
@@ -65,7 +65,7 @@ fn compile_rules(
         circuit.old.gates ++ (rules_made inputs.now at.now cases.now.cases (size circuit.old)).gates) }
     ensures signals { IfOk result (λ v. v.items ≡ (rules_made inputs.now at.now cases.now.cases (size circuit.old)).signals) }
     ensures in_range { IfOk result (λ v. All (IsSignal (size circuit.new)) v.items) }
-    ensures says { IfOk result (λ v. CasesSay circuit.new inputs.now cases.now at.now cases.now.cases v.items) }
+    ensures says { IfOk result (λ v. TellsRules circuit.new inputs.now cases.now at.now cases.now.cases v.items) }
 {
     let mut signals = Vec::new(alloc);
     for (rule, _) in cases.cases.as_slice() {

@@ -6,7 +6,7 @@ use Rattle.dd_derivation.specs.Derivations.{IsRefuting}
 use Rattle.dd_problem.specs.Problems.{box_problem}
 use Rattle.dd_expansion.specs.Placed.{is_flat}
 use Rattle.dd_formula.specs.LocalRule.{LocalRule}
-use Rattle.dd_boxes.specs.{Goals.GoalOf, Goals.IsGoalFor, Boxes.origin, Boxes.Suffices, Boxes.Reaches, Boxes.IsLeastRadius, Laws.OneBox}
+use Rattle.dd_boxes.specs.{Goals.GoalOf, Goals.IsGoalFor, Boxes.origin, Boxes.Suffices, Boxes.ReadsWithin, Boxes.IsLeastRadius, Laws.OneBox}
 use Rattle.dd_contain.specs.declared.decision.Decision.{Decision}
 use Rattle.dd_contain.specs.declared.decision.Decision.TheVariants.{Yes, No, Unknown}
 use Rattle.dd_contain.specs.{Decided.IsDecidedBy, Questions.ShowsAt, Questions.Displays, Questions.IsDecided, Laws.IsShown, Laws.Trichotomy}
@@ -20,12 +20,12 @@ flat_origin d = cases (nat_lt 1 d) (nat_lt 2 d) where
   cases false false = refl
 
 module _ (x : LocalRule) (g : GoalOf) (each : (radius : ℕ) → OneBox x g radius) (ok : IsGoalFor x g) where
-  reaches : (least n : ℕ) → IsLeastRadius g least → least ≤ n → Reaches g n
+  reaches : (least n : ℕ) → IsLeastRadius g least → least ≤ n → ReadsWithin g n
   reaches least n is le = ((each n).radius least is).1 le
 
-  -- If a box suffices and holds what the goal reads at the origin, no configuration shows the goal: the symbols of such a configuration in the box
-  -- would be an admissible filling with the goal at the origin.
-  never_both : (n p : ℕ) → Reaches g n → Suffices x g n → IsShown x g p → ⊥
+  -- If a radius suffices and its box holds what the goal reads at the origin, no configuration shows the goal: the symbols of such a configuration in
+  -- the box would be an admissible filling with the goal at the origin.
+  never_both : (n p : ℕ) → ReadsWithin g n → Suffices x g n → IsShown x g p → ⊥
   never_both n p reach suffices shown =
       let tile = shown.2.0 in
       let witness = shown.2.1.1 in
@@ -35,7 +35,7 @@ module _ (x : LocalRule) (g : GoalOf) (each : (radius : ℕ) → OneBox x g radi
     abbrev most : ℕ
     most = max n least
 
-    reached : Reaches g most
+    reached : ReadsWithin g most
     reached = reaches least most is (omega arith)
 
     told : (decision : Decision) → IsDecidedBy (Suffices x g) (λ k steps. IsRefuting (box_problem x g k) steps) (ShowsAt x g) (Displays x g) least most x.dimension p decision →

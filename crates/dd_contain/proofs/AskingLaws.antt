@@ -1,4 +1,4 @@
--- Right proposals are answers. What several requests do to a roster.
+-- A right proposal answers the question whether the clauses can be satisfied. What several requests do to a roster.
 use Rattle.std.proofs.Common.{List, refl, sym, inl, inr, subst}
 use Rattle.std.specs.Prelude.{◌↔◌}
 use Rattle.dd_clause.specs.Clauses.{ClauseList}

@@ -4,7 +4,7 @@ use Rattle.dd_derivation.specs.{declared.step.Step.Step, Derivations.IsRefuting,
 use Rattle.dd_lattice.specs.Boxes.{centred, volume}
 use Rattle.dd_pattern.specs.{declared.periods.Periods.Periods, Periods.periods_volume as tile_volume, Tile.Tile}
 use Rattle.dd_formula.specs.LocalRule.{LocalRule}
-use Rattle.dd_boxes.specs.{Goals.GoalOf, Goals.IsGoalFor, Boxes.Suffices, Boxes.Reaches, Boxes.IsLeastRadius}
+use Rattle.dd_boxes.specs.{Goals.GoalOf, Goals.IsGoalFor, Boxes.Suffices, Boxes.ReadsWithin, Boxes.IsLeastRadius}
 use Rattle.dd_boxes.specs.{Witnesses.IsWitness, Witnesses.HasPeriods, Witnesses.ArePeriods, Counts.question_clauses, Counts.most_clauses}
 use Rattle.dd_problem.specs.Problems.{box_problem}
 use Rattle.dd_contain.specs.declared.decision.Decision.{Decision}
@@ -28,7 +28,7 @@ ShowsAt x g p = (t : Tile) × Displays x g p t
 -- clauses are few enough
 pub record AsksRadius (x : LocalRule) (g : GoalOf) (n : ℕ) : Type 0 where
   pub goal : IsGoalFor x g
-  pub reaches : Reaches g n
+  pub reaches : ReadsWithin g n
   pub few : question_clauses x g (volume (centred x.dimension n)) ≤ most_clauses
 
 -- the search may ask about these periods: a question with this premise may have this goal, they are periods in the premise's dimension and within the

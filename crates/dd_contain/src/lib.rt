@@ -15,12 +15,12 @@
 //! the goal if it obeys the premise and has the goal at the origin. Periods show the goal if some configuration with these
 //! periods shows it. The search stops at the first periods that show the goal.
 //!
-//! Each box and each torus becomes a list of clauses. The clauses can be satisfied exactly when the box has an admissible
-//! filling with the goal at the origin, or the torus has a configuration that shows the goal. A refutation of clauses is a list
-//! of steps. Each step derives a further clause, and the last one derives the empty clause. An engine is any value that may
-//! propose an assignment or a refutation. A proposal is right if it satisfies or refutes the clauses. If an engine counts as
-//! sound, all that it proposes is right. A roster is a list of engines. The engines of a roster are asked about the clauses
-//! first. If none of them makes a right proposal, a solver decides.
+//! Each box and each torus becomes a list of clauses. The clauses of a box can be satisfied exactly when it has an admissible
+//! filling with the goal at the origin, and those of a torus exactly when it has a configuration that shows the goal. A
+//! refutation of clauses is a list of steps. Each step derives a further clause, and the last one derives the empty clause. An
+//! engine is any value that may propose an assignment or a refutation. A proposal is right if it satisfies or refutes the
+//! clauses. If an engine counts as sound, all that it proposes is right. A roster is a list of engines. First, the engines of a
+//! roster are asked about the clauses. If none of them makes a right proposal, a solver decides.
 #![tactic(auto)]
 
 mod decision;

@@ -145,9 +145,9 @@ impl<'a> Questions for BoxQuestion<'a> {
 ///   among those of all such configurations within the limit, ordered by volume, then by x, y, z and the shear;
 /// - otherwise unknown.
 ///
-/// Each list of clauses goes to the roster first, without a copy. If no engine proposes a right answer, the solver decides.
-/// So engines change only the time, which steps are shown, and which configuration of the first periods is shown. An engine
-/// that takes too much memory may prevent a decision.
+/// Each list of clauses goes to the roster first, without being copied. If no engine makes a right proposal, the solver
+/// decides. So engines affect only how long the search takes, which steps a YES has, and which configuration of the first
+/// periods a NO has. An engine that takes too much memory may prevent a decision.
 ///
 /// Each sound engine stays in the roster, in order. On success, if engines are left, the first of them was asked. All engines
 /// that stood ahead of it were dropped, and none of these was sound.

@@ -15,24 +15,24 @@ abbrev pub Making : Type 0
 Making = ℕ → AllMade
 
 -- what a making gives: these signals and these gates
-abbrev pub making : List Signal → List Gate → AllMade
-making signals gates = record { signals = signals; gates = gates }
+abbrev pub all_made_of : List Signal → List Gate → AllMade
+all_made_of signals gates = record { signals = signals; gates = gates }
 
 -- several makings, one after the other: all their signals and all their gates
 abbrev pub joined : List Making → ℕ → AllMade
-joined [] n = making [] []
+joined [] n = all_made_of [] []
 joined (m ∷ ms) n =
     let rest = joined ms (n + length (m n).gates) in
-    making ((m n).signals ++ rest.signals) ((m n).gates ++ rest.gates)
+    all_made_of ((m n).signals ++ rest.signals) ((m n).gates ++ rest.gates)
 
 -- The member for a symbol of a cell. The members for all symbols are combined by an Or gate (see `count`). The signal of a member says that the cell
 -- has the symbol, and that the cells up to and including this one weigh more than t. There are three cases. If the symbol alone weighs more than t,
 -- the signal is the symbol's input. Otherwise the cells before must weigh enough, and r is the signal that says that they do. Then the member's
 -- signal is that of an And gate over the input and r. If there is no such signal r, the member has no signal.
 abbrev pub member_by : Signal → Bool → Option Signal → Making
-member_by input true earlier n = making (input ∷ []) []
-member_by input false (Some r) n = making (signal_of (suc n) ∷ []) (And (input ∷ r ∷ []) ∷ [])
-member_by input false None n = making [] []
+member_by input true earlier n = all_made_of (input ∷ []) []
+member_by input false (Some r) n = all_made_of (signal_of (suc n) ∷ []) (And (input ∷ r ∷ []) ∷ [])
+member_by input false None n = all_made_of [] []
 
 -- the member for a symbol that weighs w, where `before` is the row of the cell before (empty for the first cell)
 abbrev pub member : Signal → ℕ → ℕ → List Signal → Making
@@ -50,20 +50,20 @@ members ws k t before = map (of_symbol ws k t before) (range_with_len 0 (length 
 abbrev pub count : List ℕ → ℕ → List Signal → ℕ → Making
 count ws k before t n =
     let each = joined (members ws k t before) n in
-    making (signal_of (suc (n + length each.gates)) ∷ []) (each.gates ++ Or each.signals ∷ [])
+    all_made_of (signal_of (suc (n + length each.gates)) ∷ []) (each.gates ++ Or each.signals ∷ [])
 
 -- the row of the cell k: its signals at 0, 1, .. up to below - 1, with their gates
 abbrev pub row : List ℕ → ℕ → ℕ → List Signal → Making
 row ws below k before = joined (map (count ws k before) (range_with_len 0 below))
 
--- The rows of c cells, from the cell k on. The first one is over the row `before`, and each other one over the row before it. The signals are those
--- of the last row, or `before` if c is 0.
+-- The rows of c cells, from the cell k on. The first one is over the row `before`, and each of the others is over the previous row. The signals are
+-- those of the last row, or `before` if c is 0.
 abbrev pub rows : List ℕ → ℕ → ℕ → ℕ → List Signal → Making
-rows ws below zero k before n = making before []
+rows ws below zero k before n = all_made_of before []
 rows ws below (suc c) k before n =
     let first = row ws below k before n in
     let rest = rows ws below c (k + 1) first.signals (n + length first.gates) in
-    making rest.signals (first.gates ++ rest.gates)
+    all_made_of rest.signals (first.gates ++ rest.gates)
 
 -- a clause list to which gates are added: one variable for each gate, and the clauses of the gates
 abbrev pub grown : ClauseList → List Gate → ClauseList

@@ -12,8 +12,8 @@ use dd_formula::Rule;
 /// that ask for them. (`weight_clauses` makes these clauses for shear 0.) If the clauses without a bound are refuted, there is
 /// no living configuration. Suppose that some living configuration weighs `w`. If `w` is 0, or the clauses that ask for a
 /// weight below `w` are refuted, then `w` is the least weight. There is at most one least weight, and there is none if there is
-/// no living configuration. The contract also says what the last clause is if there is a bound, and how many clauses the bound
-/// adds at most.
+/// no living configuration. The contract also says what the last clause is if there is a bound, and that the bound adds no more
+/// clauses than `weight_count` counts for it.
 pub fn least_law(rule: &Rule)
     ensures { (p : AnyPeriods) (ws : List ℕ) → AreTorusPeriods rule.now.dimension rule.now.nodes p → length ws ≡ rule.now.symbols → SaysWeights rule.now p ws }
 {

@@ -42,7 +42,7 @@ pub(crate) struct LocalSearch<'a> {
     rule: &'a Rule,
     torus: &'a TorusRule,
     weights: &'a [u32],
-    /// Where the rule was found to be true or false.
+    /// What earlier tests of the rule found.
     remembered: Remembered,
     symbols: Vec<u32>,
     /// The sum of the weights of the symbols.
@@ -290,8 +290,8 @@ impl<'a> LocalSearch<'a> {
         growth
     }
 
-    /// Pays for a test of the rule at each cell that reads this one, also for tests that `growth_at_readers` leaves out. So the
-    /// search takes the same steps as if all tests were made.
+    /// Pays for a test of the rule at each cell that reads this one, including the tests that `growth_at_readers` leaves out.
+    /// So the search takes the same steps as if all tests were made.
     fn pay_for(&mut self, cell: usize) {
         let torus = self.torus;
         for reader in torus.readers(cell) {
@@ -299,9 +299,9 @@ impl<'a> LocalSearch<'a> {
         }
     }
 
-    /// The growth of the change that was just made at this cell, or `None` if it is greater than `most`. At first, the growth
-    /// is what it would be if the rule were now true at each cell that reads this one. Then these cells are tested, and each of
-    /// them where the rule is false adds its penalty. Once the growth is greater than `most`, no more cells are tested.
+    /// The growth of the change that was just made at this cell, or `None` if it is greater than `most`. The growth is first
+    /// computed as if the rule were now true at each cell that reads this one. Then these cells are tested, and the penalty of
+    /// each one where the rule is false is added. Once the growth is greater than `most`, no more cells are tested.
     fn growth_at_readers(&mut self, cell: usize, most: i64) -> Option<i64> {
         let torus = self.torus;
         let mut growth = 0i64;

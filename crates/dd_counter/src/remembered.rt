@@ -1,6 +1,6 @@
-//! A memory of the rule's truth at the cells of a torus. The local search tests the rule again and again under the same symbols.
-//! Each test but the first then only looks up what was found. No contract depends on this memory, as none depends on the local
-//! search.
+//! A memory of the rule's truth at the cells of a torus. The local search tests the rule again and again under the same
+//! symbols. Each later test only looks up what the first one found. No contract depends on this memory, as none depends on the
+//! local search.
 use crate::torus_rule::TorusRule;
 use std::alloc::{AllocError, Global};
 
@@ -19,7 +19,7 @@ pub(crate) struct Remembered {
     found: Vec<Option<bool>>,
 }
 
-/// How many patterns a cell has, or a number above `MOST_PLACES` if there are more.
+/// How many patterns a cell has. If it has more than `MOST_PLACES`, the result is some number above `MOST_PLACES`.
 fn count_patterns(base: usize, reads: usize) -> usize {
     let mut count = 1usize;
     for _ in 0..reads {

@@ -40,13 +40,13 @@ abbrev pub state_length : LocalRule → ℕ
 state_length r = max 1 (slice_span r - 1)
 
 -- the number of fillings of one slice, which has `volume` positions
-abbrev pub slices : LocalRule → ℕ → ℕ
-slices r volume = r.symbols ^ (r.nodes * volume)
+abbrev pub slice_fillings : LocalRule → ℕ → ℕ
+slice_fillings r volume = r.symbols ^ (r.nodes * volume)
 
 -- the number of states of the transfer graph over a strip whose slices have `volume` positions
 abbrev pub states : LocalRule → ℕ → ℕ
-states r volume = slices r volume ^ state_length r
+states r volume = slice_fillings r volume ^ state_length r
 
 -- the number of windows over a strip whose slices have `volume` positions
 abbrev pub window_count : LocalRule → ℕ → ℕ
-window_count r volume = slices r volume ^ (state_length r + 1)
+window_count r volume = slice_fillings r volume ^ (state_length r + 1)

@@ -1,6 +1,6 @@
 //! How many clauses encode a box question. A box question has a rule, which is its premise, and a goal, which is a property of
-//! positions. It asks whether no configuration that obeys the premise has the goal at any position. Rules are first encoded as
-//! logic gates, and these gates as clauses.
+//! positions. It asks whether the goal fails at every position of every configuration that obeys the premise. Rules are first
+//! encoded as logic gates, and these gates as clauses.
 ghost use Rattle.std.specs.Prelude.{◌≡◌, ◌≤◌, ◌^◌, ◌<◌, ℕ, length};
 ghost use Rattle.dd_formula.specs.Counts.{cut, rule_clauses, disallowed, disallowed_pairs, place_clauses, broken_clauses, largest_clauses};
 

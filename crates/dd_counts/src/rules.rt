@@ -5,7 +5,7 @@
 //! and a window fills one slice more. Each edge is a window, but a window need not be an edge.
 ghost use Rattle.std.specs.Prelude.{◌≡◌, ◌^◌, ◌<◌, ◌≤◌};
 ghost use Rattle.dd_formula.specs.Counts.{cut};
-ghost use Rattle.dd_counts.specs.Rules.{pattern_count, least_x, greatest_x, slice_span, state_length, slices, states, window_count};
+ghost use Rattle.dd_counts.specs.Rules.{pattern_count, least_x, greatest_x, slice_span, state_length, slice_fillings, states, window_count};
 
 use dd_formula::{Rule, power};
 use dd_lattice::Cell;
@@ -81,9 +81,9 @@ pub fn state_length(rule: &Rule) -> u64
 }
 
 /// The number of fillings of one slice, which has `volume` positions; or `limit + 1` if it is greater than `limit`.
-fn slices(rule: &Rule, volume: u32, limit: u32) -> u32
+fn slice_fillings(rule: &Rule, volume: u32, limit: u32) -> u32
     requires { limit < 2 ^ 31 }
-    ensures { result ≡ cut limit (slices rule.now volume) }
+    ensures { result ≡ cut limit (slice_fillings rule.now volume) }
 {
     power(limit, rule.symbols(), rule.nodes() as u64 * volume as u64)
 }
@@ -94,7 +94,11 @@ pub fn states(rule: &Rule, volume: u32, limit: u32) -> u32
     requires { limit < 2 ^ 31 }
     ensures { result ≡ cut limit (states rule.now volume) }
 {
-    power(limit, slices(rule, volume, limit), state_length(rule))
+    power(
+        limit,
+        slice_fillings(rule, volume, limit),
+        state_length(rule),
+    )
 }
 
 /// The number of windows over a strip whose slices have `volume` positions; or `limit + 1` if it is greater than `limit`. The
@@ -103,5 +107,9 @@ pub fn window_count(rule: &Rule, volume: u32, limit: u32) -> u32
     requires { limit < 2 ^ 31 }
     ensures { result ≡ cut limit (window_count rule.now volume) }
 {
-    power(limit, slices(rule, volume, limit), state_length(rule) + 1)
+    power(
+        limit,
+        slice_fillings(rule, volume, limit),
+        state_length(rule) + 1,
+    )
 }

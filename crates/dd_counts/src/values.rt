@@ -1,6 +1,7 @@
-//! How many clauses encode the values of automata, which are the symbols that they give to cells. An automaton by cases gives
-//! each cell the symbol of the first true case, which is the first case whose rule is true there. If no case is true, it gives
-//! the default symbol. A composed automaton applies its inner automaton first, and its outer one to the result.
+//! How many clauses encode the values of automata. An automaton's value at a cell is the symbol that it gives the cell. An
+//! automaton by cases gives each cell the symbol of the first true case, which is the first case whose rule is true there. If
+//! no case is true, it gives the default symbol. A composed automaton applies its inner automaton first, and its outer one to
+//! the result.
 ghost use Rattle.std.specs.Prelude.{◌≡◌, ◌≤◌, ◌^◌, ◌<◌, IfOk, map};
 ghost use Rattle.dd_expansion.specs.Leaves.{total};
 ghost use Rattle.dd_formula.specs.Automata.{HasNode, HaveNode, HasCells, HasCaseNode};
@@ -84,7 +85,7 @@ fn value_clauses_from(
 }
 
 /// The number of clauses that say whether two automata differ at a node, or `limit + 1` if it is greater than `limit`. The
-/// clauses encode both values, for each symbol a gate with two inputs, and one gate over all these gates.
+/// clauses encode both values, a gate with two inputs for each symbol, and one gate over all these gates.
 fn differ_at(
     alloc: Global,
     first: &Automaton,

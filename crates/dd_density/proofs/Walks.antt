@@ -1,16 +1,16 @@
--- The transfer graph has the walks, weights, potentials and ranks that are defined directly over the rule and the strip.
+-- The walks, weights, potentials and ranks of the transfer graph are those that are defined directly over the rule and the strip.
 use Rattle.std.proofs.Common.{◌≡◌, ℕ, ◌*◌, ◌%◌, ◌≤◌, ◌^◌, List, [], ◌∷◌, length, Some, arith, refl, sym, ap, ◌∙◌, subst}
 use Rattle.std.proofs.lemmas.Nat.{mod_below}
 use Rattle.std.specs.Prelude.{ℤ, pos, ◌-ℤ◌, ◌≤ℤ◌}
 use Rattle.dd_formula.specs.LocalRule.{LocalRule}
-use Rattle.dd_counts.specs.Rules.{slices}
+use Rattle.dd_counts.specs.Rules.{slice_fillings}
 use Rattle.dd_strip.specs.{declared.strip.Strip.Strip, Strips.positions}
 use Rattle.dd_transfer.specs.Graphs.{Transfer, IsTransfer, next_of, weight_at}
 use Rattle.dd_transfer.specs.Transfers.{IsGraphOf, slice_weight}
 use Rattle.dd_transfer.specs.Certificates.{IsWalk, IsClosedWalk, IsInLowestTerms, walk_weight, IsDensityCertificate, IsEmptyCertificate, AreStripPotentials as RisesAlong, potential_of}
 use Rattle.dd_meancycle.specs.Means.{IsPath, IsCycle, ArePotentials, weight_of}
 use Rattle.dd_meancycle.specs.lemmas.StepLaws.{last_slice, weight_small, step}
-use Rattle.dd_density.specs.graphs.Shown.{IsShown, AreFallen}
+use Rattle.dd_density.specs.graphs.Shown.{IsShown, AreFalling}
 
 pub weight_most : (g : Transfer) (ws : List ℕ) → IsTransfer g → weight_of g ws ≤ 2 ^ 25 * length ws
 weight_most g [] well = omega arith
@@ -36,7 +36,7 @@ pub weighed : (r : LocalRule) (s : Strip) (weights : List ℕ) (g : Transfer) (w
 weighed r s weights g [] is = refl
 weighed r s weights g (w ∷ ws) is =
     let first : weight_at g (w % g.slices) ≡ slice_weight r s weights (w % g.slices) = is.weighs (w % g.slices) (mod_below w g.slices is.kept.some_slice) in
-    let same : slice_weight r s weights (w % g.slices) ≡ slice_weight r s weights (w % slices r (positions s)) = ap (λ (n : ℕ). slice_weight r s weights (w % n)) is.slices_are in
+    let same : slice_weight r s weights (w % g.slices) ≡ slice_weight r s weights (w % slice_fillings r (positions s)) = ap (λ (n : ℕ). slice_weight r s weights (w % n)) is.slices_are in
     let rest = weighed r s weights g ws is in
     omega (arith, first, same, rest)
 
@@ -82,13 +82,13 @@ shown_of r s weights g p q ws ps is c = record {
   potentials = potentials_of r s weights g c.m c.l ps is c.potentials;
 }
 
-pub empty_of : (r : LocalRule) (s : Strip) (weights : List ℕ) (g : Transfer) (ranks : List ℕ) → IsGraphOf r s weights g → AreFallen g ranks → IsEmptyCertificate r s ranks
+pub empty_of : (r : LocalRule) (s : Strip) (weights : List ℕ) (g : Transfer) (ranks : List ℕ) → IsGraphOf r s weights g → AreFalling g ranks → IsEmptyCertificate r s ranks
 empty_of r s weights g ranks is given = record {
   each = given.each ∙ is.states_are;
   fall = λ u t v edge. given.fall u t v ((is.edges u t v).1 edge);
 }
 
-pub fallen_of : (r : LocalRule) (s : Strip) (weights : List ℕ) (g : Transfer) (ranks : List ℕ) → IsGraphOf r s weights g → IsEmptyCertificate r s ranks → AreFallen g ranks
+pub fallen_of : (r : LocalRule) (s : Strip) (weights : List ℕ) (g : Transfer) (ranks : List ℕ) → IsGraphOf r s weights g → IsEmptyCertificate r s ranks → AreFalling g ranks
 fallen_of r s weights g ranks is c = record {
   each = c.each ∙ sym is.states_are;
   fall = λ u t v h. c.fall u t v ((is.edges u t v).0 h);

@@ -9,7 +9,7 @@ ghost use Rattle.std.specs.Prelude.{◌≡◌, ℕ, ◌*◌, ◌%◌, ◌<◌, �
 ghost use Rattle.dd_transfer.specs.Graphs.{next_of, weight_at, IsTransfer};
 ghost use Rattle.dd_meancycle.specs.Means.{IsCycle, ArePotentials, weight_of};
 ghost use Rattle.dd_transfer.specs.Certificates.{potential_of};
-ghost use Rattle.dd_density.specs.graphs.Shown.{IsShown, AreFallen, IsRiseAlong, IsFallAlong};
+ghost use Rattle.dd_density.specs.graphs.Shown.{IsShown, AreFalling, IsRiseAlong, IsFallAlong};
 
 use crate::lowest::{Ratio, in_lowest_terms};
 use dd_transfer::Graph;
@@ -187,7 +187,7 @@ fn are_falls_from(graph: &Graph, state: u32, ranks: &[u64]) -> bool
 
 /// Whether there is a rank for each state, and the rank falls along each edge.
 pub(crate) fn are_ranks(graph: &Graph, ranks: &[u64]) -> bool
-    ensures { IsTrue result ↔ AreFallen graph.now ranks.now }
+    ensures { IsTrue result ↔ AreFalling graph.now ranks.now }
 {
     if ranks.len() != graph.states() as usize {
         return false;

@@ -11,10 +11,10 @@
 //! another slice is appended. The edge weighs as much as the appended slice. States are numbered from 0. A walk is given by the
 //! numbers of its states. Potentials and ranks are listed in the order of the states.
 //!
-//! If some configuration lives on the strip, the certificate is a closed walk with a potential for each state. The mean of a
-//! closed walk is its weight divided by its number of edges. The density of the walk is this mean divided by the number of
-//! positions in a slice. Let m / l be the mean in lowest terms. Along each edge of weight w, the potential rises by at most
-//! l * w - m.
+//! If some configuration lives on the strip, the certificate is a closed walk, and a potential for each state of the graph. The
+//! mean of a closed walk is its weight divided by its number of edges. The density of the walk is this mean divided by the
+//! number of positions in a slice. Let m / l be the mean in lowest terms. Along each edge of weight w, the potential rises by
+//! at most l * w - m.
 //!
 //! If no configuration lives on the strip, the certificate is a rank for each state. The rank falls along each edge.
 //!

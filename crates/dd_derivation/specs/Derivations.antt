@@ -1,4 +1,4 @@
--- Refutations of a clause list: steps whose clauses follow by unit propagation along hints.
+-- Refutations of a clause list, and derivations from it: lists of steps whose clauses follow by unit propagation along hints.
 use Rattle.std.specs.Prelude.{ℕ, zero, suc, ◌==◌, nat_le, Bool, true, false, not, ◌&&◌, ◌||◌, if◌then◌else◌, ◌≡◌, List, [], ◌∷◌, ◌++◌, Option, Some, None, is_some, slice_get, slice_set, map, take}
 use Rattle.std.specs.{Bool.beq, List.list_any, List.list_all, List.filter, Option.option_map_or, Option.option_and_then}
 use Rattle.dd_clause.specs.{declared.clause.Literal.Literal, Clauses.ClauseList, Clauses.negation}

@@ -142,7 +142,7 @@ pub fn find<F: FalseLiterals>(falses: &F, clause: &[Literal]) -> Finding
 
 /// What the clause of the hint at this place says once the hints before it have been followed. `Open` if there is no such
 /// clause.
-fn find_hint(
+fn hint_finding(
     known: &Known,
     marks: &[VariableMark],
     step: u64,
@@ -179,7 +179,7 @@ pub fn follow_hints(known: &Known, marks: &mut [VariableMark], number: u64, step
 {
     let hints = step.hints.as_slice();
     for place in 0..hints.len() {
-        match find_hint(known, marks, number, hints, place) {
+        match hint_finding(known, marks, number, hints, place) {
             Finding::Falsified => return place + 1 == hints.len(),
             Finding::Open => return false,
             Finding::Forced(literal) => mark(marks, number, literal.negation()),

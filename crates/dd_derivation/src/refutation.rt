@@ -32,8 +32,8 @@ impl Model for Marks {
 }
 
 impl Marks {
-    /// Allocates the memory for a check of these clauses and steps. It also serves for any others with the same number of
-    /// variables and the same number of clauses and steps together.
+    /// Allocates the memory for a check of these clauses and steps. It can also be used for any other clauses and steps with
+    /// the same number of variables and the same total number of clauses and steps.
     pub fn new(alloc: Global, cnf: &Cnf, steps: &[Step]) -> Result<Marks, AllocError>
         ensures variables { IfOk result (λ m. m.variables ≡ cnf.now.variables) }
         ensures numbers { IfOk result (λ m. m.numbers ≡ length cnf.now.clauses + length steps.now) }

@@ -5,7 +5,7 @@ use dd_values::Items;
 /// A clause that follows from clauses before it by unit propagation along its hints.
 ///
 /// The C clauses of a list have the numbers 1 to C, and the steps after them have the numbers from C + 1 on. By these numbers,
-/// a step names the clauses that it hints at and those that it deletes. No later step may use a deleted clause as a hint.
+/// a step names the clauses that it uses as hints and those that it deletes. No later step may use a deleted clause as a hint.
 ///
 /// Proofs whose clauses follow by unit propagation are due to Goldberg and Novikov (2003). The hints are those of the LRAT
 /// format of Cruz-Filipe, Heule, Hunt, Kaufmann and Schneider-Kamp (2017).

@@ -24,8 +24,8 @@ abbrev pub column_value : ℤ → List ℕ → ℕ → ℤ
 column_value held amounts zero = held
 column_value held amounts (suc j) = pos (slice_index amounts j)
 
--- There is an amount for each column after the first. Each row holds for `held` and the amounts, if its right side is
--- multiplied by the common denominator.
+-- There is an amount for each column after the first. Each row, with its right side multiplied by the common denominator, holds for `held` and the
+-- amounts.
 pub record MeetRows (rows : List Row) (columns common : ℕ) (held : ℤ) (amounts : List ℕ) : Type 0 where
   pub size : 1 + length amounts ≡ columns
   pub each : (k : ℕ) → k < length rows

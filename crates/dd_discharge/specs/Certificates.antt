@@ -1,4 +1,4 @@
--- When a bound of a rule along some vectors is certified, and when it is the best.
+-- When a bound of a rule along some vectors is certified, and when no amounts give a better one.
 use Rattle.std.specs.Prelude.{ℕ, List, length}
 use Rattle.dd_lattice.specs.Place.{Place}
 use Rattle.dd_formula.specs.LocalRule.{LocalRule}

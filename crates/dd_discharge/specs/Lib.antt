@@ -8,7 +8,7 @@ pub mod Bounds
 pub mod Outcomes
 -- what certifies a bound for the rows of a program: amounts that reach it, and duals that show that no amounts do better
 pub mod Amounts
--- when a bound of a rule along some vectors is certified, and when it is the best
+-- when a bound of a rule along some vectors is certified, and when no amounts give a better one
 pub mod Certificates
 -- the reason for an `Overflow`, and which fault of a discharge comes from each fault of its program and of its run
 pub mod Faults

@@ -80,7 +80,7 @@ fn worth(rows: &[Row], columns: usize, duals: &[u64]) -> u128
     sum
 }
 
-/// Whether each row holds for `held` and the amounts, if its right side is multiplied by the common denominator.
+/// Whether each row, with its right side multiplied by the common denominator, holds for `held` and the amounts.
 fn meets_rows(rows: &[Row], columns: usize, common: u64, held: u128, amounts: &[u64]) -> bool
     requires rows { AreRowsOf columns rows.now }
     requires held { held ≤ 2 ^ 80 }

@@ -1,4 +1,4 @@
-//! The check whether a claimed bound of a rule along some vectors is certified.
+//! The check of whether a claimed bound of a rule along some vectors is certified.
 ghost use Rattle.std.specs.Prelude.{◌≡◌, ◌≤◌, IfOk, true, false};
 ghost use Rattle.dd_values.specs.Bounds.{most_number, widest_radius};
 ghost use Rattle.dd_boxes.specs.Discharges.{AreVectors, AreWeightsFor};
@@ -16,10 +16,10 @@ use std::alloc::{AllocError, Global};
 ///
 /// - The rule's program is within its limits.
 /// - The bound is in lowest terms, and its denominator divides the common denominator, which is at least 1.
-/// - There is an amount for each column of the program after the first. The rows hold for the bound and the amounts, so each
-///   position holds at least the bound.
+/// - There is an amount for each column of the program after the first. The bound and the amounts meet the rows, so each
+///   position holds at least the bound in the end.
 /// - There is a dual for each row. In each column, take the sum, over the rows, of dual times coefficient. It is at least 1 in
-///   column 0, and at least 0 in every other column.
+///   column 0, and at least 0 in all other columns.
 /// - The duals are worth exactly the bound, so no amounts do better.
 ///
 /// The weights, the radius, the margin and the vectors are as in `discharge`. The claimed numerator and the claimed common

@@ -14,10 +14,10 @@ pub enum DischargeFault {
     Large,
     /// A number of the simplex run is greater than 2^127 - 1 in absolute value, or the least common denominator of the run's
     /// result, or a numerator over this denominator, is greater than 2^40.
-    #[error("a number of the discharge is too large")]
+    #[error("a number in the discharge is too large")]
     Overflow,
     /// The simplex run needs more pivots than its limit allows.
-    #[error("the run of the discharge exceeds its limit of pivots")]
+    #[error("the discharge needs more pivots than its limit allows")]
     Pivots,
     /// Memory ran out.
     #[error("out of memory")]

@@ -11,7 +11,7 @@ use Rattle.dd_values.specs.lemmas.Booleans.{lt_yes, lt_no}
 use Rattle.dd_solver.specs.searching.{Marking.kept_step, Search.all_known, Search.after_step, Search.known_through, Search.is_derived}
 use Rattle.dd_solver.specs.lemmas.{Forcing.same_finding, Known.Known, Known.at, Known.length-all, Known.all_alive, Steps.refutes_after}
 use Rattle.dd_solver.specs.lemmas.Renumbering.{SaysTheSame, Agree, refutes_renamed}
-use Rattle.dd_elimination.specs.Reductions.{whole_number, whole_step, HaveSameLiterals, IsNamed, AreNamed, IsReduction}
+use Rattle.dd_elimination.specs.Reductions.{new_number, whole_step, HaveSameLiterals, IsNamed, AreNamed, IsReduction}
 use Rattle.dd_elimination.specs.Renaming.{new_name, renamed, renamed_step}
 use Rattle.dd_elimination.proofs.{Renaming.refutes_renaming, Names.is_renaming}
 
@@ -55,31 +55,32 @@ named_says known number c h = go (clause_of known number) refl h
     go None e h = absurd h
     go (Some d) e h = (d, e, λ p. same_finding p d c h)
 
-agree : (known : Known) (numbers : List ℕ) (reduced : List (List Literal)) (before : ℕ) → AreNamed known numbers reduced → Agree (λ _. true) (whole_number numbers before) (all_known reduced) known
+agree : (known : Known) (numbers : List ℕ) (reduced : List (List Literal)) (before : ℕ) → AreNamed known numbers reduced → Agree (λ _. true) (new_number numbers before) (all_known reduced) known
 agree known numbers reduced before a zero c k e = absurd (cc)
 agree known numbers reduced before a (suc h) c k e =
     let r = numbered reduced h c e in
     let m : suc h ≤ length numbers = omega (arith, a.as_many, r.0) in
     let p : suc h - 1 ≡ h = omega arith in
-    let w : whole_number numbers before (suc h) ≡ get_or numbers h 0 = rw (lt_no (length numbers) (suc h) m, lt_yes 0 (suc h) (omega arith), p) refl in
+    let w : new_number numbers before (suc h) ≡ get_or numbers h 0 = rw (lt_no (length numbers) (suc h) m, lt_yes 0 (suc h) (omega arith), p) refl in
     rw w (named_says known (get_or numbers h 0) c (subst (IsNamed known (get_or numbers h 0)) r.1 (a.named h r.0)))
 
 -- if each clause of a list has the same literals as the known clause with its number, and some steps refute this list, then the steps of the
 -- elimination, followed by these steps with new numbers in their hints, refute the whole list
-named_refutes : (n : ℕ) (clauses : List (List Literal)) (steps : List Step) (reduced : List (List Literal)) (numbers : List ℕ) (found : List Step) → derives n clauses steps ≡ true → AreNamed (all_known (clauses_before clauses steps)) numbers reduced → refutes n reduced found ≡ true → length clauses + (length steps + length found) < 2 ^ 64 → refutes n clauses (steps ++ map (kept_step (whole_number numbers (length clauses + length steps))) found) ≡ true
+named_refutes : (n : ℕ) (clauses : List (List Literal)) (steps : List Step) (reduced : List (List Literal)) (numbers : List ℕ) (found : List Step) → derives n clauses steps ≡ true → AreNamed (all_known (clauses_before clauses steps)) numbers reduced → refutes n reduced found ≡ true → length clauses + (length steps + length found) < 2 ^ 64 → refutes n clauses (steps ++ map (kept_step (new_number numbers (length clauses + length steps))) found) ≡ true
 named_refutes n clauses steps reduced numbers found d a r few =
-    let rename = whole_number numbers (length clauses + length steps) in
+    let rename = new_number numbers (length clauses + length steps) in
     let known = all_known (clauses_before clauses steps) in
     let derived = derived_all n clauses steps d in
     refutes_after n (all_known clauses) steps (map (kept_step rename) found) derived.0
     (rw derived.1 (refutes_renamed n rename found (all_known reduced) known (agree known numbers reduced (length clauses + length steps) a) next r))
   where
-    next : (j : ℕ) → j < length found → whole_number numbers (length clauses + length steps) (length (all_known reduced) + suc j) ≡ length (all_known (clauses_before clauses steps)) + suc j
+    next : (j : ℕ) → j < length found → new_number numbers (length clauses + length steps) (length (all_known reduced) + suc j) ≡ length (all_known (clauses_before clauses steps)) + suc j
     next j h =
         let m : length (all_known reduced) + suc j ≡ length numbers + suc j = omega (arith, length-all reduced, a.as_many) in
         rw (m, lt_yes (length numbers) (length numbers + suc j) (omega arith)) (omega (arith, length-all (clauses_before clauses steps), length-before clauses steps, few, h))
 
--- the steps that the search's steps stand for, after the steps of the elimination, refute the whole list
+-- if the steps `found` refute the reduced list, the steps of the elimination, followed by the steps that those in `found` stand for, refute the whole
+-- list
 pub reduction_refutes : (n : ℕ) (clauses : List (List Literal)) (steps : List Step) (m : ℕ) (reduced : List (List Literal)) (names numbers : List ℕ) (found : List Step) → IsReduction n clauses steps m reduced names numbers → refutes m reduced found ≡ true → length clauses + (length steps + length found) < 2 ^ 64 → refutes n clauses (steps ++ map (whole_step names numbers (length clauses + length steps)) found) ≡ true
 reduction_refutes n clauses steps m reduced names numbers found a r few =
     let f = new_name names in
@@ -87,4 +88,4 @@ reduction_refutes n clauses steps m reduced names numbers found a r few =
     let renamed_r = refutes_renaming f (length names) n renaming reduced found (rw a.as_many r) in
     let count = length-map found (renamed_step f) in
     let all = named_refutes n clauses steps (map (map (renamed f)) reduced) numbers (map (renamed_step f) found) a.derived a.named renamed_r (rw count few) in
-    rw (map-map (kept_step (whole_number numbers (length clauses + length steps))) (renamed_step f) found) at all
+    rw (map-map (kept_step (new_number numbers (length clauses + length steps))) (renamed_step f) found) at all

@@ -9,8 +9,8 @@ use Rattle.dd_elimination.specs.Renaming.{AreNames, new_name, renamed, renamed_s
 -- The number that a clause gets in the refutation of the whole list. `number` is its number in the refutation of the reduced list. `numbers` has the
 -- new number of each clause of the reduced list. The clause of the k-th step of the refutation of the reduced list gets the number `before` + k, or
 -- 2^64 - 1 if this sum is greater.
-abbrev pub whole_number : List ℕ → ℕ → ℕ → ℕ
-whole_number numbers before number =
+abbrev pub new_number : List ℕ → ℕ → ℕ → ℕ
+new_number numbers before number =
     if nat_lt (length numbers) number then min (before + (number - length numbers)) (2 ^ 64 - 1)
     else (if nat_lt 0 number then slice_index_or numbers (number - 1) 0 else number)
 
@@ -39,4 +39,4 @@ pub record IsReduction (n : ℕ) (clauses : List (List Literal)) (steps : List S
 
 -- The step of the whole list that a step of the reduced list stands for. It has the original literals, and new numbers in its hints.
 abbrev pub whole_step : List ℕ → List ℕ → ℕ → Step → Step
-whole_step names numbers before s = kept_step (whole_number numbers before) (renamed_step (new_name names) s)
+whole_step names numbers before s = kept_step (new_number numbers before) (renamed_step (new_name names) s)

@@ -484,8 +484,8 @@ impl Elimination {
         Ok(true)
     }
 
-    /// Whether some clause has the variable or its negation, the variable has at most `MOST_PAIRS` pairs, its resolvents are
-    /// no more than the clauses that they would replace, and none of them is too long.
+    /// Whether some clause has the variable or its negation, the variable has at most `MOST_PAIRS` pairs, there are no more
+    /// resolvents on it than clauses that they would replace, and no resolvent is too long.
     fn is_worth_it(&mut self, variable: u32, sides: &Sides) -> bool {
         let most = sides.positive.len().saturating_add(sides.negative.len());
         if most == 0 || sides.positive.len().saturating_mul(sides.negative.len()) > MOST_PAIRS {

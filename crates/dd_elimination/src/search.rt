@@ -1,6 +1,7 @@
-//! The search on the clauses that remain after the elimination of variables. From its result an answer for the list before the
-//! elimination is made, and tested. If it is a refutation after an elimination by resolution, only this elimination is tested
-//! (see the file `reduction.rt`). If a test failed, the list before it would be searched, but this never happens.
+//! The search on the clauses that remain after the elimination of variables. Its result is turned into an answer for the whole
+//! list, the list before the elimination, and this answer is tested. If it is a refutation after an elimination by resolution,
+//! only this elimination is tested (see the file `reduction.rt`). If a test failed, an answer for the whole list would be
+//! sought without this elimination, but this never happens.
 ghost use Rattle.std.specs.Prelude.{◌≡◌, ◌↔◌, true, IfOk, IfSome};
 ghost use Rattle.dd_derivation.specs.Derivations.{refutes};
 ghost use Rattle.dd_solver.specs.Answers.{IsAnswer, IsFound, IsRefuted, IsSatisfiable};
@@ -49,8 +50,8 @@ impl Remainder {
 }
 
 /// Finds an assignment that satisfies the clauses, or steps that refute them. The variables that unit propagation fixes are
-/// eliminated first, unless this propagation falsifies a clause. Then the clauses that remain are searched in the given style
-/// (see `Style` in `dd_trail`). On the clauses of questions about boxes and tori, this is faster than `solve_with` of
+/// eliminated first, unless this propagation falsifies a clause. After that, the clauses that remain are searched in the given
+/// style (see `Style` in `dd_trail`). On the clauses of questions about boxes and tori, this is faster than `solve_with` of
 /// `dd_solver`. Where `solve_with` would give a long refutation, `solve_propagated` mostly gives a shorter one.
 ///
 /// # Errors
@@ -64,9 +65,10 @@ pub fn solve_propagated(alloc: Global, cnf: &Cnf, style: Style) -> Result<Outcom
 }
 
 /// Finds an assignment that satisfies the clauses, or steps that refute them. Variables are eliminated by resolution first,
-/// unless there are more than 200,000 clauses, or the squares of their lengths add up to 100,000,000 or more. If unit
-/// propagation settles half of the clauses, the variables that it fixes are eliminated even before. On clauses that ask for a
-/// configuration whose weight is below a bound, this is faster than `solve` of `dd_solver`.
+/// unless there are more than 200,000 clauses, or the squares of their lengths add up to 100,000,000 or more. If there are at
+/// most 200,000 clauses and unit propagation leaves at most half of them, the variables that it fixes are eliminated even
+/// before that. On clauses that ask for a configuration whose weight is below a bound, this is faster than `solve` of
+/// `dd_solver`.
 ///
 /// # Errors
 /// `AllocError` if memory ran out.
@@ -117,8 +119,8 @@ fn find_propagated(
     }
 }
 
-/// The answer that `find_propagated` makes, if the list has at most `MOST_CLAUSES` clauses. If there is none, the answer after
-/// an elimination by resolution.
+/// The answer that `find_propagated` makes, if the list has at most `MOST_CLAUSES` clauses. If there is none, the answer that
+/// `resolved_answer` gives.
 fn reduced_answer(alloc: Global, cnf: &Cnf) -> Result<Outcome, AllocError>
     ensures { IfOk result (IsAnswer cnf.now.variables cnf.now.clauses) }
 {

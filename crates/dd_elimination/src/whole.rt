@@ -2,7 +2,7 @@
 //! list.
 ghost use Rattle.std.specs.Prelude.{◌≡◌, ◌+◌, ◌<◌, ◌^◌, ◌++◌, length, map, IfOk, IfSome};
 ghost use Rattle.dd_solver.specs.searching.Marking.{kept_step};
-ghost use Rattle.dd_elimination.specs.Reductions.{whole_number, whole_step};
+ghost use Rattle.dd_elimination.specs.Reductions.{new_number, whole_step};
 ghost use Rattle.dd_elimination.specs.Renaming.{new_name, renamed};
 
 use crate::elimination::{Eliminated, Elimination};
@@ -53,7 +53,7 @@ fn has_other_true(literals: &[Literal], variable: u32, values: &[bool]) -> bool 
 /// list. `numbers` has the new number of each clause of the reduced list. The clauses of the steps get the numbers after
 /// `before`.
 fn new_number(numbers: &[u64], before: u64, number: u64) -> u64
-    ensures { result ≡ whole_number numbers.now before number }
+    ensures { result ≡ new_number numbers.now before number }
 {
     let count = numbers.len() as u64;
     if number > count {
@@ -67,7 +67,7 @@ fn new_number(numbers: &[u64], before: u64, number: u64) -> u64
 
 /// Replaces each hint by its new number (see `new_number`).
 fn renumber(numbers: &[u64], before: u64, hints: &mut [u64])
-    ensures { hints.new ≡ map (whole_number numbers.now before) hints.old }
+    ensures { hints.new ≡ map (new_number numbers.now before) hints.old }
 {
     for hint in hints.iter_mut() {
         *hint = new_number(numbers, before, *hint);
@@ -77,7 +77,7 @@ fn renumber(numbers: &[u64], before: u64, hints: &mut [u64])
 /// The step with new numbers in its hints (see `new_number`). It deletes nothing, like the steps that `trimmed` of `dd_solver`
 /// gives.
 pub(crate) fn renumbered_step(alloc: Global, numbers: &[u64], before: u64, step: Step) -> Step
-    ensures { result ≡ kept_step (whole_number numbers.now before) step }
+    ensures { result ≡ kept_step (new_number numbers.now before) step }
 {
     let Step { clause, hints, .. } = step;
     let mut hints = hints.into_vec();

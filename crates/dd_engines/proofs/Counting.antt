@@ -3,7 +3,7 @@ use Rattle.std.proofs.Common.{◌≡◌, ◌≢◌, ℕ, zero, suc, ◌+◌, ◌
 use Rattle.std.proofs.Math.ListN.{set, replicate}
 use Rattle.std.proofs.lemmas.Bool.{cases_eq, cases_lt, eqb-true, eq-eqb, false≢true, false_from_ne_true}
 use Rattle.std.proofs.lemmas.List.{length-set, length-replicate, get_or-replicate, get_or-set_same, get_or-set_other}
-use Rattle.dd_engines.specs.walking.Truths.{is_zero_at, IsListed, NoneWithin, IsFirstIn, NoneIsZero, IsFirstZero}
+use Rattle.dd_engines.specs.walking.Truths.{is_zero_at, HasMarks, NoneWithin, IsFirstIn, NoneIsZero, IsFirstZero}
 
 record NoneAt (counts : List ℕ) (k : ℕ) : Type 0 where
   within : k < length counts
@@ -23,7 +23,7 @@ pub some_at : (counts : List ℕ) (k : ℕ) → 0 < get_or counts k 0 → is_zer
 some_at counts k some = false_from_ne_true (is_zero_at counts k) (λ t. absurd (omega (arith, some, (none_at counts k t).none)))
 
 -- a mark at each block, and 0 as the first block to look at, agree with any counts
-pub all_marked : (counts : List ℕ) → IsListed counts (replicate (length counts / 32 + 1) true) 0
+pub all_marked : (counts : List ℕ) → HasMarks counts (replicate (length counts / 32 + 1) true) 0
 all_marked counts = record {
   long = length-replicate (length counts / 32 + 1) true;
   after = λ k h. omega arith;
@@ -31,7 +31,7 @@ all_marked counts = record {
 }
 
 -- a block without a mark can be passed over
-pub passed : (counts : List ℕ) (marks : List Bool) (block : ℕ) → IsListed counts marks block → get_or marks block false ≡ false → IsListed counts marks (block + 1)
+pub passed : (counts : List ℕ) (marks : List Bool) (block : ℕ) → HasMarks counts marks block → get_or marks block false ≡ false → HasMarks counts marks (block + 1)
 passed counts marks block listed unmarked = record {
   long = listed.long;
   after = λ k h. elim (cases_eq (k / 32) block) [
@@ -42,7 +42,7 @@ passed counts marks block listed unmarked = record {
 }
 
 -- a block without a count of 0 can lose its mark
-pub cleared : (counts : List ℕ) (marks : List Bool) (block : ℕ) → IsListed counts marks block → NoneWithin counts (32 * block) (32 * block + 32) → IsListed counts (set marks block false) (block + 1)
+pub cleared : (counts : List ℕ) (marks : List Bool) (block : ℕ) → HasMarks counts marks block → NoneWithin counts (32 * block) (32 * block + 32) → HasMarks counts (set marks block false) (block + 1)
 cleared counts marks block listed none =
     let past : (k : ℕ) → is_zero_at counts k ≡ true → block + 1 ≤ k / 32 = λ k h. elim (cases_lt k (32 * block + 32)) [
       | inl lt ↦ absurd (false≢true (sym (none k (omega (arith, listed.after k h)) lt) ∙ h))
@@ -55,7 +55,7 @@ cleared counts marks block listed none =
     }
 
 -- the first count of 0 in the first block that has one is the first of all
-pub first_of_all : (counts : List ℕ) (marks : List Bool) (block place : ℕ) → IsListed counts marks block → IsFirstIn counts block place → IsFirstZero counts place
+pub first_of_all : (counts : List ℕ) (marks : List Bool) (block place : ℕ) → HasMarks counts marks block → IsFirstIn counts block place → IsFirstZero counts place
 first_of_all counts marks block place listed first = record {
   within = first.within;
   none = first.none;
@@ -66,10 +66,10 @@ first_of_all counts marks block place listed first = record {
 }
 
 -- if all blocks have been passed, no count is 0
-pub none_left : (counts : List ℕ) (marks : List Bool) (block : ℕ) → IsListed counts marks block → length marks ≤ block → NoneIsZero counts
+pub none_left : (counts : List ℕ) (marks : List Bool) (block : ℕ) → HasMarks counts marks block → length marks ≤ block → NoneIsZero counts
 none_left counts marks block listed past k = false_from_ne_true (is_zero_at counts k) (λ t. absurd (omega (arith, listed.long, past, listed.after k t, (none_at counts k t).within)))
 
-pub none_listed : (counts : List ℕ) (marks : List Bool) (block : ℕ) → IsListed counts marks block → length marks ≤ block → (start : ℕ) → IsListed counts marks start
+pub none_listed : (counts : List ℕ) (marks : List Bool) (block : ℕ) → HasMarks counts marks block → length marks ≤ block → (start : ℕ) → HasMarks counts marks start
 none_listed counts marks block listed past start = record {
   long = listed.long;
   after = λ k h. absurd (false≢true (sym (none_left counts marks block listed past k) ∙ h));
@@ -77,7 +77,7 @@ none_listed counts marks block listed past start = record {
 }
 
 -- a count other than 0 can be written without a mark
-pub some_written : (counts : List ℕ) (marks : List Bool) (start number count : ℕ) → number < length counts → IsListed counts marks start → 0 < count → IsListed (set counts number count) marks start
+pub some_written : (counts : List ℕ) (marks : List Bool) (start number count : ℕ) → number < length counts → HasMarks counts marks start → 0 < count → HasMarks (set counts number count) marks start
 some_written counts marks start number count lt listed some =
     let before : (k : ℕ) → is_zero_at (set counts number count) k ≡ true → is_zero_at counts k ≡ true = λ k h.
     let at = none_at (set counts number count) k h in
@@ -92,7 +92,7 @@ some_written counts marks start number count lt listed some =
     }
 
 -- any count can be written if its block gets a mark, and if the search then starts at this block or earlier
-pub written_marked : (counts : List ℕ) (marks : List Bool) (start number count : ℕ) → number < length counts → IsListed counts marks start → IsListed (set counts number count) (set marks (number / 32) true) (min start (number / 32))
+pub written_marked : (counts : List ℕ) (marks : List Bool) (start number count : ℕ) → number < length counts → HasMarks counts marks start → HasMarks (set counts number count) (set marks (number / 32) true) (min start (number / 32))
 written_marked counts marks start number count lt listed =
     let inside : number / 32 < length marks = omega (arith, lt, listed.long) in
     let here : (k : ℕ) → k / 32 ≡ number / 32 → get_or (set marks (number / 32) true) (k / 32) false ≡ true = λ k e. ap (λ (b : ℕ). get_or (set marks (number / 32) true) b false) e ∙ get_or-set_same marks (number / 32) true false inside in

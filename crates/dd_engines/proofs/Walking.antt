@@ -8,7 +8,7 @@ use Rattle.dd_clause.specs.declared.clause.Literal.{Literal}
 use Rattle.dd_clause.specs.Clauses.{ClauseList, negation, IsLiteralInRange, IsClauseInRange, is_true_under, Satisfies}
 use Rattle.dd_values.specs.Variables.{true_variables}
 use Rattle.dd_engines.specs.Walks.{made_true, first_unsatisfied, values_after, NoneBefore, IsFirstOnWalk}
-use Rattle.dd_engines.specs.walking.Truths.{true_count, occurrences, more, less, changed, IsListed, NoneIsZero, IsFirstZero}
+use Rattle.dd_engines.specs.walking.Truths.{true_count, occurrences, more, less, changed, HasMarks, NoneIsZero, IsFirstZero}
 use Rattle.dd_engines.specs.{walking.Walking.Walks, declared.chains.Chains.Chains}
 use Rattle.dd_engines.specs.walking.Chains.{HasChain, numbers_of, IsListingOf}
 use Rattle.dd_engines.proofs.{Places.occurrences_within, Flipping.flipped_counts}
@@ -39,8 +39,8 @@ length-changed f (k ∷ ks) counts = length-changed f ks (set counts k (f (get_o
 
 -- after a flip the changed counts agree with the new values
 pub flip_walks : (clauses : List (List Literal)) (values : List Bool) (counts new_counts : List ℕ) (marks new_marks : List Bool) (start new_start : ℕ) (chains : Chains) (l : Literal) → Walks clauses values counts marks start → IsListingOf chains (length values) clauses → IsLiteralInRange (length values) l → is_true_under (true_variables values) l ≡ false
-    → new_counts ≡ changed less (numbers_of chains (negation l)) (changed more (numbers_of chains l) counts) → IsListed new_counts new_marks new_start → Walks clauses (made_true values l) new_counts new_marks new_start
-flip_walks clauses values counts new_counts marks new_marks start new_start chains l walks listing range is_false made are_listed =
+    → new_counts ≡ changed less (numbers_of chains (negation l)) (changed more (numbers_of chains l) counts) → HasMarks new_counts new_marks new_start → Walks clauses (made_true values l) new_counts new_marks new_start
+flip_walks clauses values counts new_counts marks new_marks start new_start chains l walks listing range is_false made are_marked =
     let long : length (made_true values l) ≡ length values = length-set values (l.variable - 1) l.positive in
     let at : numbers_of chains l ≡ occurrences l 0 clauses = listing.chained l (chain_there (length values) clauses chains l listing range) in
     let other : numbers_of chains (negation l) ≡ occurrences (negation l) 0 clauses = listing.chained (negation l) (chain_there (length values) clauses chains (negation l) listing range) in
@@ -48,17 +48,17 @@ flip_walks clauses values counts new_counts marks new_marks start new_start chai
       range = subst (λ (n : ℕ). All (IsClauseInRange n) clauses) (sym long) walks.range;
       short = walks.short;
       counted = made ∙ rw (at, other, walks.counted) (flipped_counts values l clauses range is_false (record { range = walks.range; short = walks.short }));
-      are_listed = are_listed;
+      are_marked = are_marked;
     }
 
 -- what is kept of a walk stays right if the counts are the same and the new marks agree with them
 pub looked_walks : (clauses : List (List Literal)) (values : List Bool) (counts new_counts : List ℕ) (marks new_marks : List Bool) (start new_start : ℕ) → Walks clauses values counts marks start
-    → new_counts ≡ counts → IsListed new_counts new_marks new_start → Walks clauses values new_counts new_marks new_start
-looked_walks clauses values counts new_counts marks new_marks start new_start walks same are_listed = record {
+    → new_counts ≡ counts → HasMarks new_counts new_marks new_start → Walks clauses values new_counts new_marks new_start
+looked_walks clauses values counts new_counts marks new_marks start new_start walks same are_marked = record {
   range = walks.range;
   short = walks.short;
   counted = same ∙ walks.counted;
-  are_listed = are_listed;
+  are_marked = are_marked;
 }
 
 one_of : (b : Bool) → b ≡ true → 1 ≤ cond b 1 0

@@ -16,7 +16,7 @@ IsSatisfying cnf values = (length values ≡ cnf.variables) × Satisfies (true_v
 abbrev pub IsUnsatisfiable : ClauseList → Type 0
 IsUnsatisfiable cnf = (set : ℕ → Bool) → Satisfies set cnf.clauses → ⊥
 
--- the proposal is right; `Nothing` counts as right
+-- the proposal is right, or it is `Nothing`
 abbrev pub IsRight : ClauseList → Proposal → Type 0
 IsRight cnf Nothing = Unit {0}
 IsRight cnf (Proposed values) = IsSatisfying cnf values

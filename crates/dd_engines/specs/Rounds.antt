@@ -2,8 +2,8 @@
 use Rattle.std.specs.Prelude.{◌≡◌, ◌≢◌, ◌⊎◌, ℕ, ◌+◌, ◌-◌, ◌^◌, ◌≤◌, List, [], ◌∷◌, Bool, true, false, IsSomeAnd, slice_get}
 use Rattle.dd_values.specs.Counts.{Rose}
 
--- An engine as contracts see it: how often it was asked, how often it proposed something, and whether it counts as sound. If it
--- does, its proposals are right.
+-- An engine as contracts see it: how often it was asked, a count that rises with each proposal, and whether the engine counts as sound. If it does,
+-- its proposals are right.
 pub record Seen : Type 0 where
   pub asked : ℕ
   pub given : ℕ

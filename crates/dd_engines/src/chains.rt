@@ -1,5 +1,5 @@
 //! Occurrence lists: each literal has a chain of the clauses that contain it. All chains share one list of links. One pass over
-//! the clauses, from the last to the first, puts each clause in front of the chains of its literals. So the clause numbers
+//! the clauses, from the last to the first, puts each clause at the front of the chains of its literals. So the clause numbers
 //! along a chain are in ascending order. A clause that contains a literal several times occurs in the literal's chain as many
 //! times, in a row.
 ghost use Rattle.std.specs.Prelude.{◌≡◌, ◌≢◌, ◌++◌, ◌∷◌, slice_index_or, All, replicate, length, IfOk, OnOk};

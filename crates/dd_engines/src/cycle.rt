@@ -52,9 +52,9 @@ impl Landmark {
         }
     }
 
-    /// Whether the walk is found to be in a cycle after `k` flips. It is if the present values are those of the landmark, and
-    /// the number of flips since the landmark is a positive multiple of `period`. `period` is a period of these flips, or
-    /// `None` if none is known.
+    /// Whether the walk is found to be in a cycle after `k` flips: the present values are those of the landmark, and the number
+    /// of flips since the landmark is a positive multiple of `period`. `period` is a period of these flips, or `None` if none
+    /// is known.
     pub fn is_back(&self, k: u32, period: Option<u32>) -> bool
         requires { IfSome period (λ t. 0 < t) }
         ensures { result ≡ true → IsBack self.now period k }

@@ -26,7 +26,7 @@ pub trait Engine: Drop {
     /// How often it was asked. The count stops at 2^64 - 1.
     ghost asked: { Self → ℕ };
 
-    /// A count that rises each time it proposes something, and only then. The count stops at 2^64 - 1.
+    /// A count that rises each time the engine proposes something, and only then. The count stops at 2^64 - 1.
     ghost given: { Self → ℕ };
 
     /// Whether it counts as sound. If it does, each of its proposals is right.

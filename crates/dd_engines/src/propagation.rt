@@ -26,7 +26,7 @@ use std::alloc::{AllocError, Global};
 /// How many times, at most, a pass back and a pass forward are made without counts, after a first pass back.
 const FEW: usize = 2;
 
-/// What has followed so far: the values of the variables that have one, and the literals that became true, in order.
+/// What has followed so far: the value of each variable that has one, and the literals that became true, in order.
 #[derive(Drop)]
 struct Trail {
     values: Vec<Option<bool>>,

@@ -11,8 +11,8 @@ use dd_clause::{Cnf, satisfies};
 use dd_derivation::{Marks, Outcome, check_refutation};
 use std::alloc::{AllocError, Global};
 
-/// Engines that are asked in turn. Contracts say of each engine how often it was asked, how often it proposed something, and
-/// whether it counts as sound; if it does, all its proposals are right.
+/// Engines that are asked in turn. Contracts give three things for each engine: how often it was asked, a count that rises with
+/// each proposal, and whether the engine counts as sound. If it does, all its proposals are right.
 #[derive(Drop)]
 pub struct Roster<E = Box<dyn Engine>> {
     engines: Vec<E>,

@@ -4,7 +4,7 @@
 //! mark when a search of the block finds that each of its clauses has a true literal.
 ghost use Rattle.std.specs.Prelude.{◌≡◌, ◌^◌, ◌*◌, ◌<◌, ◌+◌, ◌≤◌, length, map, slice_set, slice_index_or, All, IfOk, MatchOption};
 ghost use Rattle.dd_clause.specs.Clauses.{IsClauseInRange};
-ghost use Rattle.dd_engines.specs.walking.Truths.{IsListed, NoneWithin, IsFirstIn, NoneIsZero, IsFirstZero, changed, more, less, true_count};
+ghost use Rattle.dd_engines.specs.walking.Truths.{HasMarks, NoneWithin, IsFirstIn, NoneIsZero, IsFirstZero, changed, more, less, true_count};
 ghost use Rattle.dd_engines.specs.walking.Chains.{IsLinked, HasChain, numbers_of};
 
 use crate::chains::Chains;
@@ -27,7 +27,7 @@ impl Truths {
     pub fn new(alloc: Global, clauses: &[Clause], values: &[bool]) -> Result<Truths, AllocError>
         requires { All (IsClauseInRange (length values.now)) clauses.now }
         ensures counts { IfOk result (λ truths. truths.counts.items ≡ map (true_count values.now) clauses.now) }
-        ensures listed { IfOk result (λ truths. IsListed truths.counts.items truths.marks.items truths.first_block) }
+        ensures listed { IfOk result (λ truths. HasMarks truths.counts.items truths.marks.items truths.first_block) }
         ensures short { IfOk result (λ _. All (λ clause. length clause < 2 ^ 64) clauses.now) }
     {
         let mut counts = Vec::with_capacity(alloc, clauses.len())?;
@@ -44,9 +44,9 @@ impl Truths {
     /// Counts one more true literal for the clause with this number.
     fn raise_one(&mut self, number: usize)
         requires within { number < length self.old.counts.items }
-        requires listed { IsListed self.old.counts.items self.old.marks.items self.old.first_block }
+        requires listed { HasMarks self.old.counts.items self.old.marks.items self.old.first_block }
         ensures counts { self.new.counts.items ≡ slice_set self.old.counts.items number (more (slice_index_or self.old.counts.items number 0)) }
-        ensures listed { IsListed self.new.counts.items self.new.marks.items self.new.first_block }
+        ensures listed { HasMarks self.new.counts.items self.new.marks.items self.new.first_block }
     {
         self.counts[number] = self.counts[number].saturating_add(1);
     }
@@ -54,9 +54,9 @@ impl Truths {
     /// Counts one fewer true literal for the clause with this number. If none is left, the clause's block gets a mark.
     fn lower_one(&mut self, number: usize)
         requires within { number < length self.old.counts.items }
-        requires listed { IsListed self.old.counts.items self.old.marks.items self.old.first_block }
+        requires listed { HasMarks self.old.counts.items self.old.marks.items self.old.first_block }
         ensures counts { self.new.counts.items ≡ slice_set self.old.counts.items number (less (slice_index_or self.old.counts.items number 0)) }
-        ensures listed { IsListed self.new.counts.items self.new.marks.items self.new.first_block }
+        ensures listed { HasMarks self.new.counts.items self.new.marks.items self.new.first_block }
     {
         let count = self.counts[number].saturating_sub(1);
         self.counts[number] = count;
@@ -70,10 +70,10 @@ impl Truths {
     /// The number, counted from 0, of the first clause without a true literal. `None` if there is no such clause.
     #[tactic(auto, using(crate::proofs::Counting::passed, crate::proofs::Counting::cleared, crate::proofs::Counting::first_of_all, crate::proofs::Counting::none_left, crate::proofs::Counting::none_listed))]
     pub fn first(&mut self) -> Option<usize>
-        requires { IsListed self.old.counts.items self.old.marks.items self.old.first_block }
+        requires { HasMarks self.old.counts.items self.old.marks.items self.old.first_block }
         ensures first { MatchOption result (NoneIsZero self.old.counts.items) (IsFirstZero self.old.counts.items) }
         ensures counts { self.new.counts.items ≡ self.old.counts.items }
-        ensures listed { IsListed self.new.counts.items self.new.marks.items self.new.first_block }
+        ensures listed { HasMarks self.new.counts.items self.new.marks.items self.new.first_block }
     {
         for block in self.first_block..self.marks.len() {
             if self.marks[block] {
@@ -93,9 +93,9 @@ impl Truths {
         requires linked { IsLinked chains.now }
         requires chain { HasChain chains.now literal }
         requires within { All (λ k. k < length self.old.counts.items) (numbers_of chains.now literal) }
-        requires listed { IsListed self.old.counts.items self.old.marks.items self.old.first_block }
+        requires listed { HasMarks self.old.counts.items self.old.marks.items self.old.first_block }
         ensures counts { self.new.counts.items ≡ changed more (numbers_of chains.now literal) self.old.counts.items }
-        ensures listed { IsListed self.new.counts.items self.new.marks.items self.new.first_block }
+        ensures listed { HasMarks self.new.counts.items self.new.marks.items self.new.first_block }
     {
         let mut at = chains.first(literal);
         while at > 0 {
@@ -110,9 +110,9 @@ impl Truths {
         requires linked { IsLinked chains.now }
         requires chain { HasChain chains.now literal }
         requires within { All (λ k. k < length self.old.counts.items) (numbers_of chains.now literal) }
-        requires listed { IsListed self.old.counts.items self.old.marks.items self.old.first_block }
+        requires listed { HasMarks self.old.counts.items self.old.marks.items self.old.first_block }
         ensures counts { self.new.counts.items ≡ changed less (numbers_of chains.now literal) self.old.counts.items }
-        ensures listed { IsListed self.new.counts.items self.new.marks.items self.new.first_block }
+        ensures listed { HasMarks self.new.counts.items self.new.marks.items self.new.first_block }
     {
         let mut at = chains.first(literal);
         while at > 0 {

@@ -9,8 +9,8 @@
 //! It is forbidden if the rule is false at the node, whatever allowed symbols the other cells have. A forbidden pattern is
 //! minimal if it is no longer forbidden once any further cell is left out. For each node, `dd_minimal` defines one list of
 //! minimal patterns, the minimal list. Its patterns together forbid exactly what the rule forbids at the node. The list need
-//! not have all minimal patterns. An answer about forbidden patterns lists, node by node, the breaking fillings, which are the
-//! forbidden patterns that leave out no cell. An answer about minimal patterns has the minimal list of each node.
+//! not contain all minimal patterns. An answer about forbidden patterns gives the breaking fillings, node by node. These are
+//! the forbidden patterns that leave out no cell. An answer about minimal patterns has the minimal list of each node.
 #![tactic(auto)]
 
 mod laws;

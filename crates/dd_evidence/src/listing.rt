@@ -27,8 +27,8 @@ fn listed(alloc: Global, node: u32, filling: &Filling) -> Result<Listed, AllocEr
     })
 }
 
-/// All fillings that break the rule at the node. The cells that the rule reads there have so few fillings that `forbidden`
-/// doesn't refuse.
+/// All fillings that break the rule at the node. At each node, the cells that the rule reads must have few enough fillings for
+/// `forbidden`.
 fn breaking(alloc: Global, rule: &Rule, node: u32) -> Result<Vec<Filling>, AllocError>
     requires node { node < rule.now.nodes }
     requires few { HasFewPatterns rule.now }

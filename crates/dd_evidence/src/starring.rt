@@ -37,7 +37,7 @@ fn starred(alloc: Global, node: u32, pattern: &Partial) -> Result<Starred, Alloc
     })
 }
 
-/// The minimal list at the node. The cells that the rule reads there have so few fillings that `minimal` doesn't refuse.
+/// The minimal list at the node. At each node, the cells that the rule reads must have few enough fillings for `minimal`.
 fn minimal_at(alloc: Global, rule: &Rule, node: u32) -> Result<Vec<Partial>, AllocError>
     requires node { node < rule.now.nodes }
     requires few { HasFewPatterns rule.now }
@@ -69,7 +69,7 @@ fn push_starred(
 }
 
 /// The minimal lists of a rule, node by node. No further cell can be left out of any of their patterns. At each node, the
-/// patterns together forbid exactly what the rule forbids there. A list need not have all minimal patterns. At each node the
+/// patterns together forbid exactly what the rule forbids there. A list need not contain all minimal patterns. At each node the
 /// cells that the rule reads must have at most 65,536 fillings.
 ///
 /// # Errors

@@ -8,12 +8,12 @@ use Rattle.dd_checker.specs.{Certificates.IsCertificate, Claims.Claim}
 use Rattle.dd_examples.specs.declared.checking.Unchecked.{Unchecked}
 use Rattle.dd_examples.specs.declared.checking.Unchecked.TheVariants as unchecked
 
--- the answer is a certificate of the query with this number, counted from 1, and what it claims is true
+-- the answer is a certificate for the query with this number, counted from 1, and what it claims is true
 pub record IsRight (s : Parts) (number : ℕ) (a : Answer) : Type 0 where
   pub certificate : IsCertificate s number a
   pub claim : Claim s number a
 
--- there is an answer with this number, and it is a certificate of the query with this number
+-- there is an answer with this number, and it is a certificate for the query with this number
 abbrev pub IsRightAt : Parts → List Answer → ℕ → Type 0
 IsRightAt s answers number = IsSomeAnd (slice_get answers (number - 1)) (λ a. IsRight s number a)
 

@@ -5,7 +5,7 @@ use Rattle.dd_query.specs.declared.queries.Query.{Query}
 use Rattle.dd_script.specs.Parts.{Parts}
 use Rattle.dd_answer.specs.Right.{Right}
 
--- the first line of a right answer to the query with this number
+-- the line is the first line of a right answer to q, and gives the query this number
 pub record IsLine (s : Parts) (number : ℕ) (q : Query) (line : List ℕ) : Type 0 where
   pub answer : Answer
   pub right : Right s q answer

@@ -22,7 +22,7 @@ use std::alloc::{AllocError, Global};
 pub enum Unasked {
     /// There are more than 4 nodes, no symbols, or more than 16 symbols.
     Numbers,
-    /// The formula names something that doesn't exist, or passes a limit on moves, balls, radii or depth.
+    /// The formula names something that doesn't exist, or exceeds a limit on moves, balls, radii or depth.
     Formula,
     /// The rule reads a cell that is too far away, or its formula is too large once its quantifiers are expanded, or memory ran
     /// out.

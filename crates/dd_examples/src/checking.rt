@@ -19,7 +19,7 @@ pub enum Unchecked {
     Script(ScriptFault),
 }
 
-/// Whether an answer is a certificate of query number `before + 1`. If so, what it claims is true.
+/// Whether an answer is a certificate for query number `before + 1`. If so, what it claims is true.
 #[tactic(auto, using(crate::proofs::Checked::has_query_at))]
 fn is_right(
     alloc: Global,

@@ -1,4 +1,4 @@
-//! An engine of our own, which may be wrong, and a roster that asks it.
+//! An engine of our own, which may be wrong, and a roster of two such engines.
 ghost use Rattle.std.specs.Prelude.{false, IfOk, IfSome};
 ghost use Rattle.dd_engines.specs.Proposals.{IsRightOutcome};
 

@@ -4,8 +4,9 @@ ghost use Rattle.std.specs.Prelude.{◌≡◌, IfOk};
 use dd_output::{CertificateFault, read_output, write_output};
 use std::alloc::Global;
 
-/// Reads these bytes as an output, and writes the output again, as the same bytes. The error says either that they aren't the
-/// text of an output, with the length of their longest prefix that begins some output, or that memory ran out.
+/// Reads these bytes as an output, and writes the output again, as the same bytes. The error says that memory ran out, or that
+/// the bytes aren't the text of an output. In the second case it gives the length of their longest prefix with which some
+/// output begins.
 pub fn rewritten(alloc: Global, bytes: &[u8]) -> Result<Vec<u8>, CertificateFault>
     ensures { IfOk result (λ text. text.items ≡ bytes.now) }
 {

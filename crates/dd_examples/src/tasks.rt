@@ -1,4 +1,4 @@
-//! What the program does for each word that may follow its name, and without one.
+//! What the program does for each word that may follow its name, and what it does if no word follows.
 
 use crate::asking::chessboard_answer;
 use crate::checking::{Unchecked, checked};
@@ -53,9 +53,9 @@ impl Fault {
     pub fn message(self) -> &'static str {
         match self {
             Fault::Words => "give one of the words answer, check and squares, or no word",
-            Fault::Input => "no input",
-            Fault::Script => "no script",
-            Fault::Output => "no output of diddy",
+            Fault::Input => "the input can't be read or is too long",
+            Fault::Script => "not a script",
+            Fault::Output => "not an output of diddy",
             Fault::Memory => "out of memory",
         }
     }
@@ -135,7 +135,7 @@ fn squares_text(alloc: Global) -> Result<Vec<u8>, Fault> {
     ) {
         (Ok(Membership::Inside), Ok(Answer::Inside)) => line(alloc, b"inside\n"),
         (Ok(_), Ok(_)) => line(alloc, b"outside\n"),
-        // The rule, the configuration and the limits fit together, so nothing but memory can fail.
+        // The rule, the configuration and the limits fit together, so these calls can fail only if memory runs out.
         _ => Err(Fault::Memory),
     }
 }

@@ -64,11 +64,12 @@ inner_depth body f env inner c h same is = omega (arith, h, ap depth same, longe
 pub inner_near : (env inner : List Cell) (c : Cell) → AreNear (12 * length env) env → extent c.position ≤ 12 * (length env + 1) → inner ≡ env ++ c ∷ [] → AreNear (12 * length inner) inner
 inner_near env inner c near here is = subst (λ l. AreNear (12 * length l) l) (sym is) (near_push env c near here)
 
--- if no coordinate of the listed cells exceeds n in absolute value, this holds of each of the cells
+-- if the coordinates of all listed cells are at most n in absolute value, so are those of the cell at index i
 pub item_near : (n : ℕ) (cells : List Cell) (i : ℕ) (c : Cell) → AreNear n cells → i < length cells → c ≡ get_or cells i c → extent c.position ≤ n
 item_near n cells i c near within is = let here = near i c within in omega (arith, here, ap (λ d. extent d.position) is)
 
--- if a list has the values at the first i items, and the value at the next item is appended, it has the values at the first i + 1 items
+-- if a list consists of f's values at the first i items, and f's value at the next item is appended, the result consists of f's values at the first i
+-- + 1 items
 pub made_more : {X Y : Type 0} (f : X → Y) (xs : List X) (i : ℕ) (x : X) (made now : List Y) (y : Y) → i < length xs → x ≡ get_or xs i x → made ≡ map f (take i xs) → y ≡ f x → now ≡ made ++ y ∷ [] →
     now ≡ map f (take (i + 1) xs)
 made_more f xs i x made now y within is before one joins =

@@ -1,4 +1,4 @@
--- The reads of a formula: the cells whose symbols it asks for under some choice of the bound variables' cells in their balls.
+-- The reads of a formula: the cells whose symbols it asks for as its bound variables range over their balls.
 use Rattle.std.specs.{Prelude.List, Prelude.[], Prelude.◌∷◌, Prelude.◌++◌, Prelude.Option, Prelude.Some, Prelude.None, List.flat_map}
 use Rattle.std.specs.Option.{option_to_list}
 use Rattle.dd_lattice.specs.declared.position.Cell.{Cell}

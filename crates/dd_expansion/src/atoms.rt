@@ -42,7 +42,7 @@ fn leaf(symbol: u32, cell: Cell, budget: &mut u32) -> Result<Expanded, Expansion
     Ok(Expanded::Leaf { cell, symbol })
 }
 
-/// The negation of a part. It takes one instance from the budget: the instances of the part were taken already.
+/// The negation of a part. It takes one instance from the budget: the instances of the part have already been taken.
 pub(crate) fn negated(
     alloc: Global,
     part: Expanded,
@@ -82,7 +82,7 @@ fn negated_leaf(
 }
 
 /// The expansion of the atom that says that the symbol at the cell is not this one.
-pub(crate) fn no_symbol_at(
+pub(crate) fn not_symbol_at(
     alloc: Global,
     symbol: u32,
     cell: Option<Cell>,

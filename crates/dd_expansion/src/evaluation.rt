@@ -19,7 +19,7 @@ impl Expanded {
         match self {
             Expanded::Constant(value) => Some(*value),
             Expanded::Leaf { cell, symbol } => {
-                let there = symbol_near(cell, at, read)?;
+                let there = symbol_seen(cell, at, read)?;
                 Some(there == *symbol)
             }
             Expanded::Not(inner) => {
@@ -39,7 +39,7 @@ impl Expanded {
 
 /// The symbol that `read` gives the cell once it is moved by the position `at`. `None` if the moved cell has no symbol or
 /// is out of range.
-pub fn symbol_near<R: Reads>(cell: &Cell, at: &Position, read: &R) -> Option<u32>
+pub fn symbol_seen<R: Reads>(cell: &Cell, at: &Position, read: &R) -> Option<u32>
     ensures { result ≡ seen (R.symbols read.now) at.now cell.now }
 {
     let position = shift(&cell.position, at)?;

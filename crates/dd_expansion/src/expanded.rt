@@ -46,8 +46,8 @@ impl Expanded {
         }
     }
 
-    /// The number of instances, which must be below 2^32. They are this expansion, its parts, their parts, and so on down to
-    /// constants and leaves.
+    /// The number of instances: this expansion, its parts, their parts, and so on down to constants and leaves. The number must
+    /// be below 2^32.
     #[cycle(instances)]
     #[tactic(auto, using(std::proofs::lemmas::Grind::common_steps, crate::proofs::Sizes::instance_layers))]
     pub fn instances(&self) -> u32

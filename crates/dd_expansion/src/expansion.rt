@@ -13,7 +13,7 @@ ghost use Rattle.dd_expansion.specs.Expansion.{expansion, negated, any_of, both_
 ghost use Rattle.dd_expansion.specs.expanding.Budget.{IsPaid};
 
 use crate::atoms::{
-    adjacent_at, negated, no_symbol_at, node_at, not_same_at, place_at, same_at, spend, symbol_at,
+    adjacent_at, negated, node_at, not_same_at, not_symbol_at, place_at, same_at, spend, symbol_at,
 };
 use crate::expanded::Expanded;
 use crate::fault::ExpansionFault;
@@ -95,7 +95,7 @@ impl<'a> Scope<'a> {
         match formula {
             Formula::Symbol { term, symbol } => symbol_at(*symbol, self.cell(term), budget),
             Formula::NotSymbol { term, symbol } => {
-                no_symbol_at(alloc, *symbol, self.cell(term), budget)
+                not_symbol_at(alloc, *symbol, self.cell(term), budget)
             }
             Formula::Same { left, right } => {
                 same_at(alloc, symbols, self.cell(left), self.cell(right), budget)

@@ -23,7 +23,7 @@ fn step(topology: &Topology, from: &Cell, label: u32) -> Option<Cell>
     ensures value { result ≡ step topology.now.edges from.now label }
     ensures near { IfSome result (λ to. extent to.position ≤ extent from.now.position + 4) }
 {
-    // This call tells the proof what the type guarantees: no edge leads further than 4 along an axis.
+    // This call tells the proof what the type guarantees: no edge leads more than 4 steps along any axis.
     let _edges = topology.edges();
     topology.step(from, label)
 }
@@ -68,7 +68,7 @@ fn ball_at(
     ensures near { IfOk result (λ v. AreNear (extent centre.now.position + 4 * radius) v.items) }
     ensures fault { IfErr result (λ fault. fault ≡ Instances → ⊥) }
 {
-    // This call tells the proof what the type guarantees: no edge leads further than 4 along an axis.
+    // This call tells the proof what the type guarantees: no edge leads more than 4 steps along any axis.
     let _edges = topology.edges();
     match topology.ball(alloc, centre, radius) {
         Ok(cells) => Ok(cells),

@@ -53,12 +53,12 @@ abbrev pub radius_faults : Context → Number → List Fault
 radius_faults x n = over (nat_lt widest_radius (written_value x.text n)) Limit.Radius
 
 -- the entry can't be a period of a strip
-abbrev pub is_no_strip : List ℕ → Entry → Bool
-is_no_strip bytes e = nat_lt (entry_value bytes e) 1 || nat_lt longest_strip (entry_value bytes e)
+abbrev pub is_bad_period : List ℕ → Entry → Bool
+is_bad_period bytes e = nat_lt (entry_value bytes e) 1 || nat_lt longest_strip (entry_value bytes e)
 
 -- the faults of the periods of a strip; there must be one period fewer than there are axes
 abbrev pub strip_faults : Context → Vector → List Fault
-strip_faults x v = dimension_unless (length v.entries + 1 == dimension_of x.known) ++ over (list_any (is_no_strip x.text) v.entries) Limit.Periods
+strip_faults x v = dimension_unless (length v.entries + 1 == dimension_of x.known) ++ over (list_any (is_bad_period x.text) v.entries) Limit.Periods
 
 abbrev pub is_zero : List ℕ → Entry → Bool
 is_zero bytes e = nat_lt (entry_value bytes e) 1

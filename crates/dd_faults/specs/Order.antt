@@ -60,7 +60,7 @@ abbrev pub Refuses : Refusal → Option Fault → Type 0
 Refuses Refusal.Memory found = Unit {0}
 Refuses (Refusal.At f) found = found ≡ Some f
 
--- the result is right: it accepts if no fault was found, otherwise it is a right refusal; it may also say that memory ran out
+-- the result is right: it accepts if no fault was found, otherwise it refuses for the fault that was found; it may also say that memory ran out
 abbrev pub Accepts : {X : Type 0} → Result X Refusal → Option Fault → Type 0
 Accepts (Ok x) found = found ≡ None
 Accepts (Err e) found = Refuses e found

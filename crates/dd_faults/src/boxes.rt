@@ -74,9 +74,9 @@ impl<'a> Notes<Vector> for Torus<'a> {
         let Torus(context) = *self;
         let dimension = context.known.setting.topology.dim();
         note_dimension_unless(found, has_entries(dimension, periods));
-        let passed = has_zero(&context.text, periods)
+        let exceeded = has_zero(&context.text, periods)
             || cells_of(context, periods) as usize > MOST_IN_BOX;
-        note_over(found, passed, Limit::Periods);
+        note_over(found, exceeded, Limit::Periods);
     }
 }
 
@@ -140,8 +140,8 @@ pub(crate) fn configuration(
     }
     symbols(context, written, found);
     if box_fits(context, periods, shear, count) {
-        let passed = count > MOST_IN_BOX || period_at(text, periods, 0) <= shear_of(text, shear);
-        note_over(found, passed, Limit::Periods);
+        let exceeded = count > MOST_IN_BOX || period_at(text, periods, 0) <= shear_of(text, shear);
+        note_over(found, exceeded, Limit::Periods);
     } else {
         note_dimension_unless(found, false);
     }

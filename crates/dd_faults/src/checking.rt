@@ -62,8 +62,8 @@ fn note_header(alloc: Global, context: &Context, command: &Command, found: &mut 
             period,
             pivots,
         } => {
-            let passed = exceeds_limits(text, *radius, *period, *pivots);
-            note_over(found, passed, Limit::Limits);
+            let exceeded = exceeds_limits(text, *radius, *period, *pivots);
+            note_over(found, exceeded, Limit::Limits);
         }
         _ => {}
     }
@@ -113,9 +113,8 @@ fn note_command(alloc: Global, context: &Context, command: &Command, found: &mut
 
 /// Accepts a command that has no faults. `context` is the context of this command.
 ///
-/// # Errors
-/// `At` with the first among the command's faults of the lowest rank. `Memory` if memory ran out, or if a list is longer than
-/// any script can have.
+/// # Errors `At` with the first among the command's faults of the lowest rank. `Memory` if memory ran out, or if a list has
+/// more items than any list of a script can have.
 pub fn check(alloc: Global, context: &Context, written: &Written) -> Result<(), Refusal>
     requires written { IsWritten context.now.text written.now }
     requires sound { IsSound context.now.known }

@@ -58,18 +58,18 @@ pub enum Limit {
     /// `MOST_STATES` states, and there are at most `MOST_WINDOWS` windows (see `dd_counts`). A slice consists of the strip's
     /// cells with one value of x. A state is a filling of successive slices, and a window fills one slice more.
     States,
-    /// A box question has a rule and a goal, which may hold at a position. It asks whether no configuration that obeys the rule
-    /// has the goal at any position. The question's clauses are those of the largest box or torus that a search may try. There
-    /// is an upper bound for their number. There is another one for the number of clauses of a query for the least weight on a
-    /// torus (see `dd_question`). Both bounds are at most `MOST_CLAUSES`.
+    /// A box question has a rule and a goal, a property of a position. It asks whether the goal fails at every position of
+    /// every configuration that obeys the rule. The question's clauses are those of the largest box or torus that a search may
+    /// try. `dd_question` gives an upper bound for their number, and another one for the number of clauses of a query for the
+    /// least weight on a torus. Both bounds are at most `MOST_CLAUSES`.
     Clauses,
 }
 
 /// What is wrong with a well-formed command.
 #[derive(Clone, Copy, Debug, PartialEq, Eq)]
 pub enum Fault {
-    /// A name refers to nothing of the kind that must stand there. In a configuration, a symbol that the node of its cell
-    /// doesn't allow counts as unknown too.
+    /// A name doesn't refer to anything of the kind that is required there. In a configuration, a symbol that the node of its
+    /// cell doesn't allow counts as unknown too.
     Unknown(Name),
     /// A name is given a second time where it may be given only once.
     Twice(Name),
@@ -77,14 +77,15 @@ pub enum Fault {
     TwiceVector,
     /// The dimension, or a number of nodes, symbols, weights or entries, does not fit.
     Dimension,
-    /// A limit is passed: the statement at its variant of `Limit` doesn't hold.
+    /// A limit is exceeded: the statement at its variant of `Limit` doesn't hold.
     Size(Limit),
 }
 
 /// The first fault of the lowest rank among those noted so far, if there are any.
 pub(crate) type Found = Option<Fault>;
 
-/// The result of noting faults. It is an error only if memory ran out, or if a list is longer than any script can have.
+/// The result of noting faults. It is an error only if memory ran out, or if a list has more items than any list of a script
+/// can have.
 pub(crate) type Done = Result<(), AllocError>;
 
 /// Why a command is refused.
@@ -93,7 +94,7 @@ pub enum Refusal {
     /// The fault for which the command is refused.
     #[error("a command has a fault")]
     At(Fault),
-    /// Memory ran out, or a list is longer than any script can have.
+    /// Memory ran out, or a list has more items than any list of a script can have.
     #[error("out of memory")]
     Memory,
 }
@@ -129,9 +130,9 @@ pub(crate) fn note_if(found: &mut Found, holds: bool, fault: Fault)
     }
 }
 
-/// Notes that a limit is passed, if `passed` says so.
-pub(crate) fn note_over(found: &mut Found, passed: bool, limit: Limit)
-    ensures { found.new ≡ noted found.old (over passed limit) }
+/// Notes that a limit is exceeded, if `exceeded` says so.
+pub(crate) fn note_over(found: &mut Found, exceeded: bool, limit: Limit)
+    ensures { found.new ≡ noted found.old (over exceeded limit) }
 {
-    note_if(found, passed, Fault::Size(limit));
+    note_if(found, exceeded, Fault::Size(limit));
 }

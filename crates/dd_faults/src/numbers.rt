@@ -4,7 +4,7 @@ ghost use Rattle.std.specs.List.{list_any};
 ghost use Rattle.dd_known.specs.Limits.{farthest};
 ghost use Rattle.dd_faults.specs.Order.{noted};
 ghost use Rattle.dd_faults.specs.Commands.{dimension_unless, token_faults, entry_value, signed_value, has_entries, is_far};
-ghost use Rattle.dd_faults.specs.Commands.{is_no_strip, radius_faults, strip_faults, vector_faults, weight_faults};
+ghost use Rattle.dd_faults.specs.Commands.{is_bad_period, radius_faults, strip_faults, vector_faults, weight_faults};
 
 use crate::each::Notes;
 use crate::fault::{Fault, Found, Limit, note_if, note_over};
@@ -97,8 +97,8 @@ impl Notes<Number> for Context {
 }
 
 /// Whether some entry can't be a period of a strip: it is 0 or too large.
-fn is_no_strip(text: &Text, vector: &Vector) -> bool
-    ensures { result ≡ list_any (is_no_strip text.now) vector.now.entries }
+fn has_bad_period(text: &Text, vector: &Vector) -> bool
+    ensures { result ≡ list_any (is_bad_period text.now) vector.now.entries }
 {
     vector.entries.as_slice().iter().any(|entry| {
         let period = entry_value(text, *entry);
@@ -115,7 +115,11 @@ impl<'a> Notes<Vector> for Asked<'a> {
         let dimension = context.known.setting.topology.dim() as usize;
         let fits = dimension > 0 && periods.entries.len() == dimension - 1;
         note_dimension_unless(found, fits);
-        note_over(found, is_no_strip(&context.text, periods), Limit::Periods);
+        note_over(
+            found,
+            has_bad_period(&context.text, periods),
+            Limit::Periods,
+        );
     }
 }
 

@@ -1,5 +1,5 @@
 //! The faults of queries. In the table of queries, the row of a query's kind says what the query's words name, which vectors
-//! the query has, and how many symbols the alphabet must have at least.
+//! the query has, and the least number of symbols that the alphabet must have.
 ghost use Rattle.std.specs.{Prelude.◌≡◌, Prelude.OnOk, List.flat_map, List.zip};
 ghost use Rattle.dd_faults.specs.{Order.noted, Commands.word_faults, Commands.request_faults};
 

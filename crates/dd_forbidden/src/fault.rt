@@ -8,7 +8,7 @@ use thiserror::Error;
 #[derive(Debug, Drop, Error)]
 pub enum ForbiddenFault {
     /// The cells that are read at the node have more than 65,536 fillings over the whole alphabet.
-    #[error("the reads have more than 65536 fillings")]
+    #[error("the cells that the rule reads at the node have more than 65536 fillings")]
     Size,
     /// Memory ran out.
     #[error("out of memory")]

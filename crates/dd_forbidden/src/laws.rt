@@ -9,8 +9,8 @@ pub fn one_list()
     ensures { (r : LocalRule) (a : ℕ) (xs ys : List (List ℕ)) → BreakingFillings r a xs → BreakingFillings r a ys → xs ≡ ys }
 {}
 
-/// Does nothing. Its contract says that there are at most s^n breaking fillings, where s is the size of the alphabet and n is
-/// the number of cells that the rule reads.
+/// Does nothing. Its contract says that there are at most s^n breaking fillings at a node, where s is the size of the alphabet
+/// and n is the number of cells that the rule reads there.
 pub fn short_list()
     ensures { (r : LocalRule) (a : ℕ) (xs : List (List ℕ)) → IsRule r → BreakingFillings r a xs → length xs ≤ r.symbols ^ length (cells_at r a) }
 {}

@@ -32,7 +32,7 @@ no_outer s f g none h = none (outer_part s f g h)
 pub no_inner : (s : CommonNumbers) (f g : Automaton) → ¬ IsAutomaton s g → ¬ IsAutomaton s (v.Composed f g)
 no_inner s f g none h = none (inner_part s f g h)
 
--- a composition that is refused for a reason other than memory isn't well formed
+-- a composition that is refused for a reason other than lack of memory isn't well formed
 refused_composition : (s : CommonNumbers) (f g : Automaton) (e : RuleFault) → IsCompositionFault s.nodes (composition f g) e → e ≢ Memory → ¬ IsAutomaton s (v.Composed f g)
 refused_composition s f g Instances fault other h = false≢true (sym fault ∙ (limits_of s (v.Composed f g) h).0)
 refused_composition s f g Reach fault other h = false≢true (sym fault.1 ∙ (limits_of s (v.Composed f g) h).1)

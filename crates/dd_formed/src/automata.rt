@@ -31,7 +31,7 @@ fn has_numbers(rule: &Rule, numbers: CommonNumbers) -> bool
         && rule.symbols() == numbers.symbols
 }
 
-/// Whether the case's rule has the numbers, and the symbol that the case gives is one of the alphabet.
+/// Whether the case's rule has the numbers, and the symbol that the case gives is in the alphabet.
 fn case_fits(case: &(Rule, u32), numbers: CommonNumbers) -> bool
     ensures { result ≡ (rule_has (numbers_of numbers) case.now.0 && nat_lt case.now.1 numbers.symbols) }
 {
@@ -44,7 +44,7 @@ fn all_cases_fit(cases: &[(Rule, u32)], numbers: CommonNumbers) -> bool
     cases.iter().all(|case| case_fits(case, numbers))
 }
 
-/// Whether all cases fit, and the default symbol is one of the alphabet. Cells where no rule is true get the default symbol.
+/// Whether all cases fit, and the default symbol is in the alphabet. Cells where no rule is true get the default symbol.
 fn cases_fit(cases: &Cases, numbers: CommonNumbers) -> bool
     ensures { result ≡ cases_fit (numbers_of numbers) cases.now.cases cases.now.otherwise }
 {
@@ -138,9 +138,9 @@ fn checked_copy(
 
 /// Whether the automaton is well formed over these numbers:
 /// - There is at least one node. Each rule has these numbers, and each symbol that a case gives, or that is given by default,
-///   is one of the alphabet.
+///   is in the alphabet.
 /// - Each part has at most 20,000 instances at each node, as `Automaton::instances` counts them.
-/// - Each part reads no cell that lies more than 16 away along an axis, and nests compositions at most 64 deep.
+/// - No part reads a cell that lies more than 16 away along an axis, or nests compositions more than 64 deep.
 ///
 /// The parts are the automaton itself and, if it is a composition, the parts of both its automata.
 ///

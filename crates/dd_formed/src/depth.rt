@@ -9,7 +9,7 @@ use dd_expansion::Formula;
 /// The greatest depth that the formula of a rule may have.
 const MOST_NESTED: u32 = 64;
 
-/// Whether the formula is at most 64 deep, as the formula of each rule is. Allocates nothing.
+/// Whether the formula is at most 64 deep, as every rule's formula is. Allocates nothing.
 pub fn keeps_depth(formula: &Formula) -> bool
     ensures { IsTrue result ↔ (depth formula.now ≤ most_nested) }
 {

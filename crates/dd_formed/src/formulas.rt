@@ -36,7 +36,7 @@ fn are_below(numbers: &[u32], limit: u32) -> bool
     numbers.iter().all(|&number| number < limit)
 }
 
-/// Whether the ball's centre is a variable in scope, and its radius is at most `WIDEST_RADIUS`.
+/// Whether the ball's centre is the cell of a variable in scope, and its radius is at most `WIDEST_RADIUS`.
 fn ball_fits(scope: u32, ball: &BallOf) -> bool
     ensures { result ≡ ball_fits scope ball.now }
 {

@@ -6,7 +6,7 @@
 //! An automaton is given by a default symbol and a list of cases, each of them a rule with a symbol; or it is the composition
 //! of two automata. All its rules must have a given dimension, number of nodes and number of symbols. There must be at least
 //! one node, and each symbol that the automaton gives must exist. The automaton must be within the limits on instances, on
-//! reach (how far away it reads cells) and on how deep its compositions are nested, and so must all automata of which it is
+//! reach (how far away it reads cells) and on how deeply its compositions are nested, and so must all automata of which it is
 //! composed. A position is a point of the lattice Z^d, where d is the dimension. `Rule` says what nodes and cells are. `Rule`
 //! and `Automaton::instances` say what instances are.
 #![tactic(auto)]

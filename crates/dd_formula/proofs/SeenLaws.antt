@@ -12,7 +12,7 @@ use Rattle.dd_topology.specs.Topology.{extent}
 use Rattle.dd_expansion.specs.{Leaves.seen, Truth.are_equal, Terms.origin_at, lemmas.ListTests.list_all-weaker}
 use Rattle.dd_formula.specs.LocalRule.{is_near}
 use Rattle.dd_formula.specs.Automata.{CommonNumbers, IsAutomaton, value, counted, cells_of, is_cell_of}
-use Rattle.dd_formula.specs.Values.{are_given, is_read}
+use Rattle.dd_formula.specs.Values.{are_given, are_reads_given}
 use Rattle.dd_formula.specs.valuing.Readable.{IsReadable, AreReadable, IsReadableAt, IsSeen}
 use Rattle.dd_formula.specs.{declared.automaton.Automaton.Automaton, lemmas.Reached.filling_below, lemmas.Reached.in_range}
 use Rattle.dd_formula.specs.lemmas.AutomatonLaws.{near_reads}
@@ -126,7 +126,7 @@ module _ (f g : Automaton) (a : ℕ) (look : Look) (h : AreReadable f g a look) 
     formed = h.inner;
     cells = placed;
     symbols = h.symbols;
-    given = ap (list_all (λ c. is_read g c look)) is ∙ (sym (read_by_both f g a look) ∙ h.given);
+    given = ap (list_all (λ c. are_reads_given g c look)) is ∙ (sym (read_by_both f g a look) ∙ h.given);
   }
 
   module _ (cs : List Cell) (ss : List ℕ) (up : IsStrictlySortedBy cell_cmp cs) (is : cs ≡ cells_of f a) (are : ss ≡ map (value g look) cs) where
@@ -177,16 +177,16 @@ pub values_more : {Y : Type 0} (h : Cell → Y) (cs : List Cell) (i : ℕ) (c : 
 values_more h cs i c below is =
     ap (map h) (take_more cs i c below) ∙ (map-append h (take i cs) (get_or cs i c ∷ []) ∙ ap (λ d. map h (take i cs) ++ h d ∷ []) (sym is))
 
--- `are_given` holds of the cells that an automaton reads, listed in cell order, exactly when `is_read` holds of the automaton
-pub cells_given : (f : Automaton) (c : Cell) (look : Look) (cs : List Cell) → cs ≡ cells_of f c.node → are_given look c.position cs ≡ is_read f c look
+-- `are_given` holds of the cells that an automaton reads, listed in cell order, exactly when `are_reads_given` holds of the automaton
+pub cells_given : (f : Automaton) (c : Cell) (look : Look) (cs : List Cell) → cs ≡ cells_of f c.node → are_given look c.position cs ≡ are_reads_given f c look
 cells_given f c look cs is =
     ap (are_given look c.position) is ∙ list_all-in_order (λ d. is_some (seen look c.position d)) ((counted f).reads c.node)
 
-pub where_given : (f : Automaton) (c : Cell) (look : Look) (cs : List Cell) → cs ≡ cells_of f c.node → is_read f c look ≡ true → are_given look c.position cs ≡ true
+pub where_given : (f : Automaton) (c : Cell) (look : Look) (cs : List Cell) → cs ≡ cells_of f c.node → are_reads_given f c look ≡ true → are_given look c.position cs ≡ true
 where_given f c look cs is given = cells_given f c look cs is ∙ given
 
--- what the search for the symbols of the cells, moved by w, finds: a filling if each moved cell lies in the range of positions and has a symbol, and
--- else none
+-- what a search for the symbols of the cells moved by w finds: a filling if each moved cell lies in the range of positions and has a symbol, and
+-- otherwise none
 abbrev pub IsFound : Look → Place → List Cell → Option Filled → Type 0
 IsFound look w cs r = MatchOption r (are_given look w cs ≡ false) (λ f. (are_given look w cs ≡ true) × IsSeen look w cs f)
 

@@ -1,4 +1,5 @@
--- Compositions of automata, and why they are refused. At the end, automata with given cases: what is needed to make one, and what then holds of it.
+-- Compositions of automata, and why they are refused. At the end, automata by cases that are made from rules: what is needed to make one, and what
+-- then holds of it.
 use Rattle.std.specs.Prelude.{ℕ, ◌≤◌, ◌≡◌, true, false}
 use Rattle.dd_formula.specs.Automata.{CommonNumbers, Counted, IsAutomaton, cases_fit, counted, is_few, is_short, is_shallow}
 use Rattle.dd_formula.specs.declared.{automaton.Automaton.Automaton, automaton.Cases.Cases, fault.RuleFault.RuleFault}
@@ -59,5 +60,5 @@ pub record HaveNumbers (c : Cases) (nodes : ℕ) : Type 0 where
   pub some : 1 ≤ nodes
 
 -- the automaton that these cases give is well formed in each setting that they fit and that has exactly this many nodes
-abbrev pub IsGivenByCases : Cases → ℕ → Type 0
-IsGivenByCases c nodes = (s : CommonNumbers) → cases_fit s c.cases c.otherwise ≡ true → s.nodes ≡ nodes → IsAutomaton s (v.Given c)
+abbrev pub GiveAutomaton : Cases → ℕ → Type 0
+GiveAutomaton c nodes = (s : CommonNumbers) → cases_fit s c.cases c.otherwise ≡ true → s.nodes ≡ nodes → IsAutomaton s (v.Given c)

@@ -40,8 +40,8 @@ abbrev pub broken_clauses : LocalRule → ℕ
 broken_clauses r = rule_clauses r + 1
 
 -- An upper bound on the number of clauses of a question on a region of this many positions. The question asks about fillings of the region that obey
--- the rule and have some property, the goal. `goal` is the number of clauses that say that the goal holds. If the region is a box, there may be fewer
--- clauses, since the rule need not be true at a cell where it reads past the border.
+-- the rule and have some property. `goal` is the number of clauses that say that a filling has this property. If the region is a box, there may be
+-- fewer clauses, since the rule need not be true at a cell where it reads past the border.
 abbrev pub region_clauses : LocalRule → ℕ → ℕ → ℕ
 region_clauses r goal positions = positions * place_clauses r + goal
 

@@ -12,7 +12,7 @@ pub mod Refusals
 pub mod Automata
 -- what is needed to evaluate an automaton at a cell, and where the cells that it reads lie
 pub mod Values
--- compositions of automata, and why they are refused; automata with given cases
+-- compositions of automata, and why they are refused; automata by cases that are made from rules
 pub mod Compositions
 -- automata that are given by cases, made from formulas, and why they are refused
 pub mod ByCases

@@ -11,8 +11,8 @@ abbrev pub are_given : Look → Place → List Cell → Bool
 are_given look v ds = list_all (λ d. is_some (seen look v d)) ds
 
 -- each cell that the automaton reads at the cell c lies in the range of positions and has a symbol
-abbrev pub is_read : Automaton → Cell → Look → Bool
-is_read f c look = are_given look c.position ((counted f).reads c.node)
+abbrev pub are_reads_given : Automaton → Cell → Look → Bool
+are_reads_given f c look = are_given look c.position ((counted f).reads c.node)
 
 -- the automaton is well formed in some setting that has the cell's node, and whose alphabet has all symbols that the look-up gives
 pub record HasLook (f : Automaton) (c : Cell) (look : Look) : Type 0 where

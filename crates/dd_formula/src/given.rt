@@ -1,7 +1,7 @@
 //! Automata that are given by cases.
 ghost use Rattle.std.specs.Prelude.{◌≡◌, true, false, IfOk, IfErr, OnOk, OnErr};
 ghost use Rattle.dd_formula.specs.Automata.{is_few, is_short, counted};
-ghost use Rattle.dd_formula.specs.Compositions.{HaveNumbers, IsGivenByCases};
+ghost use Rattle.dd_formula.specs.Compositions.{HaveNumbers, GiveAutomaton};
 
 use crate::automaton::{Automaton, Cases};
 use crate::making::MOST_INSTANCES;
@@ -15,7 +15,7 @@ impl Automaton {
     pub fn given(cases: Cases, nodes: u32) -> Result<Automaton, Cases>
         requires { HaveNumbers cases nodes }
         ensures ok { IfOk result (λ f. f ≡ Automaton.Given cases) }
-        ensures formed { OnOk result (IsGivenByCases cases nodes) }
+        ensures formed { OnOk result (GiveAutomaton cases nodes) }
         ensures many { OnErr result (is_few nodes (counted (Automaton.Given cases)) ≡ false) }
         ensures back { IfErr result (λ c. c ≡ cases) }
     {

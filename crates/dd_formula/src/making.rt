@@ -62,7 +62,8 @@ pub(crate) fn parts_of(
     }
 }
 
-/// The formula's expansion at each node. The fault is `Instances` if one of them has more than `MOST_INSTANCES` instances.
+/// The formula's expansion at each node. The fault is `Instances` if one of these expansions has more than `MOST_INSTANCES`
+/// instances.
 fn expand_at_nodes(
     alloc: Global,
     topology: &Topology,

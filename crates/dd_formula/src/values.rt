@@ -5,11 +5,11 @@ ghost use Rattle.dd_lattice.specs.Order.{cell_cmp};
 ghost use Rattle.dd_pattern.specs.Filling.{filling_look};
 ghost use Rattle.dd_expansion.specs.Terms.{origin_at};
 ghost use Rattle.dd_formula.specs.Automata.{first_case, value};
-ghost use Rattle.dd_formula.specs.Values.{HasLook, HasCasesLook, are_given, is_read};
+ghost use Rattle.dd_formula.specs.Values.{HasLook, HasCasesLook, are_given, are_reads_given};
 ghost use Rattle.dd_formula.specs.valuing.Readable.{IsReadable, AreReadable, IsReadableAt, IsSeen};
 
 use crate::automaton::{Automaton, Cases};
-use dd_expansion::symbol_near;
+use dd_expansion::symbol_seen;
 use dd_lattice::{Cell, Position};
 use dd_pattern::{Filling, Reads};
 use std::alloc::{AllocError, Global};
@@ -44,7 +44,7 @@ impl Automaton {
     ) -> Result<Option<u32>, AllocError>
         requires { HasLook self.now at.now (R.symbols read.now) }
         ensures { let look = R.symbols read.now in
-            IfOk result (λ r. r ≡ (if is_read self.now at.now look then Some (value self.now look at.now) else None)) }
+            IfOk result (λ r. r ≡ (if are_reads_given self.now at.now look then Some (value self.now look at.now) else None)) }
     {
         let cells = self.reads(alloc, at.node)?;
         let Some(near) = filling_near(alloc, cells, &at.position, read)? else {
@@ -127,7 +127,7 @@ fn origin(node: u32) -> Cell
     }
 }
 
-/// The filling that gives each of these cells the symbol that `read` has at the cell moved by `at`. `None` if one of the moved
+/// The filling that gives each of these cells the symbol that `read` gives the cell moved by `at`. `None` if one of the moved
 /// cells has no symbol or lies outside the range of positions.
 fn filling_near<R: Reads>(
     alloc: Global,
@@ -142,7 +142,7 @@ fn filling_near<R: Reads>(
 {
     let mut symbols = Vec::with_capacity(alloc, cells.len())?;
     for cell in &cells {
-        let Some(symbol) = symbol_near(cell, at, read) else {
+        let Some(symbol) = symbol_seen(cell, at, read) else {
             return Ok(None);
         };
         symbols.push(symbol)?;

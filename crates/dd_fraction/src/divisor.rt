@@ -30,8 +30,8 @@ pub fn greatest_common_divisor(a: u128, b: u128) -> u128
 }
 
 /// The greatest common divisor of two machine words. A call makes one step of Euclid's algorithm, unless `b` is 0 already. If
-/// one of the two numbers is 0 after that, the other one is the result. If both are even, the call takes out a common factor of
-/// 2 and calls itself. If one is odd, the binary algorithm takes over.
+/// one of the two numbers is 0 after that, the other one is the result. If both are even, the function takes out a common
+/// factor of 2 and calls itself. If one is odd, the binary algorithm takes over.
 fn word_divisor(a: u64, b: u64) -> u64
     ensures { result ≡ greatest_common a b }
 {

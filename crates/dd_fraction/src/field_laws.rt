@@ -1,6 +1,6 @@
-//! Laws of exact fractions, as contracts of calls that do nothing. The numerators and denominators may be of any size.
-//! Fractions with the same lowest terms count as equal: sums and products are in lowest terms, and bringing an operand to
-//! lowest terms doesn't change them. The contracts say this too.
+//! Laws of exact fractions, as contracts of functions that do nothing. The numerators and denominators may be of any size.
+//! Fractions with the same lowest terms count as equal. Sums and products are in lowest terms, and bringing an operand to
+//! lowest terms doesn't change the result. The contracts say this too.
 ghost use Rattle.dd_fraction.specs.Laws.{AreSumLaws, AreProductLaws, AreOppositeLaws, AreOrderLaws, AreOrderedFieldLaws};
 
 /// Does nothing; its contract says that addition is commutative and associative, that adding 0 changes nothing, and that a

@@ -1,6 +1,6 @@
 -- Which functions are configurations with the script's nodes and allowed symbols. The spike and the checkerboard are such configurations if each
--- position has one node, and this node allows the symbols 0 and 1. So are the configurations that the script defines. The file also shows that
--- `IsExclusion` follows from its conditions, and `IsInversion` from its own.
+-- position has one node, and this node allows the symbols 0 and 1. The configurations that the script defines always are. The file also builds
+-- `IsExclusion` and `IsInversion`, each from its conditions.
 use Rattle.std.proofs.Common.{◌≡◌, ℕ, zero, suc, ◌<◌, ◌+◌, ◌-◌, ◌*◌, ◌%◌, pos, Bool, true, false, length, refl, sym, subst, arith, inl, inr, Contains}
 use Rattle.std.proofs.lemmas.{Bool.and_from, Int.ints, Nat.mod_below, Nat.mod-mul-add}
 use Rattle.std.proofs.lemmas.List.Elements.{All-contains}
@@ -80,7 +80,7 @@ node_of t c below =
     let p = t.periods in
     mod-mul-add ((residue c.position.z p.z * p.y + residue c.position.y p.y) * p.x + residue (unsheared p c.position) p.x) t.nodes c.node below
 
--- a position reduced by the periods lies in the fundamental box, so the index of a cell is below the number of symbols
+-- a position reduced modulo the periods lies in the fundamental box, so the index of a cell is below the number of symbols
 number_below : (t : Tile) → IsTile t → IsReadModulo t → (c : Cell) → c.node < t.nodes → tile_index t c < length t.symbols
 number_below t ok read c below =
     let p = t.periods in

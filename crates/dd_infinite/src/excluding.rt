@@ -19,7 +19,8 @@ pub(crate) fn has_query(script: &Script, query: u32) -> bool
     1 <= query && query as usize <= script.queries().len()
 }
 
-/// Whether a position belongs to Z^d, where d is the script's dimension: its coordinates along further axes are 0.
+/// Whether a position belongs to Z^d, where d is the script's dimension, that is, whether its coordinates along any further
+/// axes are 0.
 pub(crate) fn is_flat(script: &Script, place: &Position) -> bool
     ensures { result ≡ is_flat script.now.known.setting.topology.dimension place.now }
 {

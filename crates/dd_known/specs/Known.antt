@@ -1,4 +1,4 @@
--- The dimension of a script's lattice, and the names that a word in a query may be, by the word's role.
+-- The dimension of a script's lattice, and the names allowed for a word in a query, by the word's role.
 use Rattle.std.specs.Prelude.{ℕ, List}
 use Rattle.dd_known.specs.Tree.{Role, Known}
 

@@ -2,7 +2,7 @@
 pub mod Tree
 -- limits on what a script may write
 pub mod Limits
--- the dimension of a script's lattice, and the names that a word in a query may be, by the word's role
+-- the dimension of a script's lattice, and the names allowed for a word in a query, by the word's role
 pub mod Known
 -- the facts that always hold for what a script has defined
 pub mod Sound

@@ -23,7 +23,8 @@ pub record AreWeights (symbols : ℕ) (weights : List ℕ) : Type 0 where
   pub each : length weights ≡ symbols
   pub light : All (λ w. w ≤ most_weight) weights
 
--- `IsSetting` holds for the setting, there is one weight for each symbol, and the weights and the limits of searches are within their bounds
+-- `IsSetting` holds for the setting, there is one weight for each symbol, and the weights and the limits on the work for one answer are within their
+-- bounds
 pub record IsSound (k : Known) : Type 0 where
   pub setting : IsSetting k.setting
   pub weights : AreWeights (length k.setting.symbols) k.weights

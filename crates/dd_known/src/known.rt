@@ -28,7 +28,7 @@ pub struct Known {
     pub restricted: Items<u32>,
     /// The weight of each symbol.
     pub weights: Items<u32>,
-    /// The limits of the searches.
+    /// The limits on the work for one answer.
     pub limits: Limits,
     /// The names of the rules, in the order of their definitions.
     pub rules: Names,

@@ -1,7 +1,7 @@
 //! What a script has defined before one of its commands: nodes, symbols, which symbols each node allows, a topology, weights,
-//! limits of searches, and the names of rules, automata and configurations. Each position of Z^d has one or more nodes. A cell
-//! is a position together with one of its nodes. A topology has labelled edges between cells. A configuration gives a symbol
-//! to each cell. The crate also has limits on what a script may write; `dd_values` has others.
+//! limits on the work for one answer, and the names of rules, automata and configurations. Each position of Z^d has one or more
+//! nodes. A cell is a position together with one of its nodes. A topology has labelled edges between cells. A configuration
+//! gives a symbol to each cell. The crate also has limits on what a script may write; `dd_values` has others.
 #![tactic(auto)]
 
 mod known;

@@ -64,7 +64,7 @@ run_weaker axis low high last ps more p h =
     let most = h.most in
     record { origin = h.origin; member = h.member; steps = h.steps; least = h.least; most = omega (arith, ints); is = h.is }
 
--- a run and a copy of it, moved by s steps, lie in the run that is longer by s
+-- a run and the copy of it that is moved by s steps lie in the run that is longer by s
 pub longer_run : (axis : Axis) (low high s : ℤ) (ps run : List Place) → pos 0 ≤ℤ s → IsRegionOf (IsStretched axis low high ps) run →
     (p : Place) → IsExtended axis s run p → IsStretched axis low (high +ℤ s) ps p
 longer_run axis low high s ps run some region p (inl c) =

@@ -1,4 +1,4 @@
--- Numbers of steps up to 2^20, and their negatives, fit the code's words of 32 bits.
+-- Numbers of steps up to 2^20, and their negatives, fit in the code's 32-bit words.
 use Rattle.std.proofs.Common.{◌≡◌, ℕ, ◌≤◌, pos, ◌-ℤ◌, arith, to_z, of_z, w32}
 use Rattle.std.proofs.lemmas.Int.{ints}
 

@@ -8,7 +8,7 @@ pub record IsAtMostOnEachAxis (p q : Place) : Type 0 where
   pub on_y : p.y ≤ℤ q.y
   pub on_z : p.z ≤ℤ q.z
 
--- the two corners of a box: its least and its greatest coordinate on each axis
+-- two opposite corners of a box: its least and its greatest coordinate on each axis
 pub record Bounds : Type 0 where
   pub low : Place
   pub high : Place

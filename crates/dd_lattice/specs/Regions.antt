@@ -51,6 +51,6 @@ IsMoved ps v p = (q : Place) × Contains ps q × (p ≡ moved q v)
 abbrev pub seen_from : Place → Place → Place
 seen_from q p = place (p.x -ℤ q.x) (p.y -ℤ q.y) (p.z -ℤ q.z)
 
--- for some position of the list, the distance from p is at most n on each of the first d axes, and 0 on the others
+-- for some position of the list, its distance from p is at most n on each of the first d axes, and 0 on the others
 abbrev pub IsNearby : ℕ → ℕ → List Place → PlaceSet
 IsNearby d n ps p = (q : Place) × Contains ps q × IsCentred d n (seen_from q p)

@@ -6,7 +6,7 @@ use Rattle.dd_formula.specs.{LocalRule.LocalRule, LocalRule.IsRule, Automata.Cou
 use Rattle.dd_formula.specs.{ByCases.IsCasesRefusal, Compositions.composition, Compositions.IsCompositionFault}
 use Rattle.dd_formula.specs.declared.{automaton.Automaton.Automaton, fault.RuleFault.RuleFault}
 use Rattle.dd_formula.specs.declared.fault.RuleFault.TheVariants.{Reach, Instances, Depth, Memory}
-use Rattle.dd_maps.specs.{Pairs.IsRuleOver, Pairs.marked, Refusals.PassesGuard, Refusals.IsMarkedFault, Refusals.IsImageFault}
+use Rattle.dd_maps.specs.{Pairs.IsRuleOver, Pairs.marked, Refusals.IsGuardedShallow, Refusals.IsMarkedFault, Refusals.IsImageFault}
 use Rattle.dd_maps.proofs.{Near.marked_short, Sizes.many_outer}
 
 -- if an automaton given by cases is within the limits on instances and reach, the only possible fault is that memory ran out
@@ -25,7 +25,7 @@ err_says (Ok x) P Q more h = tt
 err_says (Err e) P Q more h = more e h
 
 module _ (g : Grid) (s : SymbolSets) (y : LocalRule) where
-  pub marked_refused : IsRuleOver g s y → IsRule y → PassesGuard s y → (e : RuleFault) → IsCasesRefusal g.nodes (counted (marked g s y)) e → IsMarkedFault g s y e
+  pub marked_refused : IsRuleOver g s y → IsRule y → IsGuardedShallow s y → (e : RuleFault) → IsCasesRefusal g.nodes (counted (marked g s y)) e → IsMarkedFault g s y e
   marked_refused over rule shallow Instances h = (shallow, h)
   marked_refused over rule shallow Reach h = absurd (never_far g.nodes (counted (marked g s y)) (marked_short g s y over.same rule.short) h)
   marked_refused over rule shallow Depth h = absurd h
@@ -37,7 +37,7 @@ module _ (g : Grid) (s : SymbolSets) (y : LocalRule) where
   marked_to_image f Depth h = inl h
   marked_to_image f Memory h = tt
 
-  pub composed_to_image : (f : Automaton) (e : RuleFault) → PassesGuard s y → IsCompositionFault g.nodes (composition (marked g s y) f) e → IsImageFault g s y f e
+  pub composed_to_image : (f : Automaton) (e : RuleFault) → IsGuardedShallow s y → IsCompositionFault g.nodes (composition (marked g s y) f) e → IsImageFault g s y f e
   composed_to_image f Instances shallow h = (shallow, h)
   composed_to_image f Reach shallow h = (shallow, h)
   composed_to_image f Depth shallow h = inr (shallow, h)

@@ -1,4 +1,4 @@
--- The automata for questions on images and conjugacies.
+-- The automata for questions about images and conjugacies.
 use Rattle.std.specs.{Prelude.ℕ, Prelude.◌-◌, Prelude.◌≡◌, Prelude.[], Prelude.◌∷◌, Prelude.map, List.range_with_len}
 use Rattle.dd_topology.specs.{Grid.Grid, Sets.SymbolSets}
 use Rattle.dd_expansion.specs.{declared.formulas.Formula.Formula, Limits.IsFormula, Limits.depth}

@@ -1,4 +1,4 @@
-//! The pairs of automata for questions on images and conjugacies.
+//! The pairs of automata for questions about images and conjugacies.
 ghost use Rattle.std.specs.Prelude.{◌≡◌, ◌-◌, ◌<◌, ◌≤◌, ◌↔◌, length, map, IfOk, IfErr, OnOk};
 ghost use Rattle.std.specs.List.{range_with_len};
 ghost use Rattle.dd_lattice.specs.Place.{Place};
@@ -9,7 +9,7 @@ ghost use Rattle.dd_formula.specs.ByCases.{numbers_over};
 ghost use Rattle.dd_formula.specs.Compositions.{AreAutomata, OverBoth, IsCompositionFault, composition};
 ghost use Rattle.dd_maps.specs.Pairs.{IsRuleOver, own_symbol, marked, always_zero, identity};
 ghost use Rattle.dd_maps.specs.Images.{DifferAt, BreaksAt, ChangesAt, HasSymbolAt, Differ, ImageBreaks, Changes, HasSymbols};
-ghost use Rattle.dd_maps.specs.Refusals.{PassesGuard, IsMarkedFault, IsImageFault};
+ghost use Rattle.dd_maps.specs.Refusals.{IsGuardedShallow, IsMarkedFault, IsImageFault};
 
 use crate::guarded::{guarded, symbol_is};
 use dd_formed::keeps_depth;
@@ -17,18 +17,17 @@ use dd_formula::{Automaton, Formula, Rule, RuleFault};
 use dd_topology::{Sets, Topology};
 use std::alloc::{AllocError, Global};
 
-/// The automaton that marks with 1 each cell where the rule is false, or where the cell's node doesn't allow the cell's
-/// symbol. It has a single case: it gives 0 where the guarded formula is true, and else 1. The guarded formula is the
-/// conjunction of:
+/// The automaton that marks with 1 each cell where the rule is false, or where the cell's node doesn't allow the cell's symbol.
+/// It has a single case: it gives 0 where the guarded formula is true, and 1 elsewhere. The guarded formula is the conjunction
+/// of:
 /// - the rule's formula; and
 /// - for each node that doesn't allow every symbol, a guard: the cell isn't at this node, or has a symbol that the node
 ///   allows.
 ///
 /// If every node allows all symbols, the guarded formula is the rule's own.
 ///
-/// # Errors
-/// `Depth` if the guarded formula is more than 64 deep. Else `Instances` if the automaton has more than 20,000 instances at
-/// some node, as `Automaton::instances` counts them. `Memory` if memory ran out.
+/// # Errors `Depth` if the guarded formula is more than 64 deep. Otherwise `Instances` if the automaton has more than 20,000
+/// instances at some node, as `Automaton::instances` counts them. `Memory` if memory ran out.
 pub fn marked(
     alloc: Global,
     topology: &Topology,
@@ -41,7 +40,7 @@ pub fn marked(
     requires rule { IsRuleOver topology.now sets.now rule.now }
     ensures ok { IfOk result (λ f. f ≡ marked topology.now sets.now rule.now) }
     ensures formed { OnOk result (IsAutomaton (numbers_over topology.now sets.now) (marked topology.now sets.now rule.now)) }
-    ensures shallow { OnOk result (PassesGuard sets.now rule.now) }
+    ensures shallow { OnOk result (IsGuardedShallow sets.now rule.now) }
     ensures fault { IfErr result (IsMarkedFault topology.now sets.now rule.now) }
 {
     let formula = guarded(alloc, sets, rule)?;
@@ -103,15 +102,15 @@ fn composed_with(alloc: Global, outer: Automaton, inner: &Automaton) -> Result<A
     }
 }
 
-/// Two automata, which differ at some node of a position exactly when the image under `map` breaks the rule `target` there.
+/// Two automata, which differ at some node of a position exactly when the image under `map` breaks the rule `target` at some
+/// node of that position.
 ///
 /// The first is a composition: it applies `map`, and then the automaton that `marked` makes of `target`. The second gives 0
 /// everywhere. They give a cell different symbols exactly when, in the image under `map`, the cell has a symbol that its node
 /// doesn't allow, or `target` is false at the cell.
 ///
-/// # Errors
-/// `Depth` if the target's guarded formula is more than 64 deep. Else `Instances`, `Reach` or `Depth` if the composition
-/// exceeds the limit that the fault names; the limits are tested in this order. `Memory` if memory ran out.
+/// # Errors `Depth` if the target's guarded formula is more than 64 deep. Otherwise `Instances`, `Reach` or `Depth` if the
+/// composition exceeds the limit that the fault names; the limits are tested in this order. `Memory` if memory ran out.
 pub fn image_pair(
     alloc: Global,
     topology: &Topology,
@@ -130,7 +129,7 @@ pub fn image_pair(
         DifferAt pair.0 pair.1 look c ↔ BreaksAt map.now target.now look c) }
     ensures positions { IfOk result (λ pair. (look : Look) (v : Place) →
         Differ topology.now.nodes pair.0 pair.1 look v ↔ ImageBreaks map.now target.now look v) }
-    ensures shallow { OnOk result (PassesGuard sets.now target.now) }
+    ensures shallow { OnOk result (IsGuardedShallow sets.now target.now) }
     ensures fault { IfErr result (IsImageFault topology.now sets.now target.now map.now) }
 {
     let marked = marked(alloc, topology, sets, target)?;

@@ -8,7 +8,7 @@ use Rattle.dd_meancycle.specs.table.Walks.{IsWalk, AreAmong, edges_weight, natur
 use Rattle.dd_meancycle.specs.table.Rises.{IsTabulated, IsSteepest, IsPotential, IsGentlest, HasRiseIn, IsReduced, IsCycleOnWalk, IsRank, IsHeight}
 use Rattle.dd_meancycle.specs.table.LeastMean.{IsLeastMean}
 use Rattle.dd_meancycle.proofs.{LevelLaws.row_length, LevelLaws.least_start, LevelLaws.least_upper, WalkLaws.cycle_weighs}
-use Rattle.dd_meancycle.proofs.Karp.{cycle_light, IsLowest, HasRise, IsAbove, potential_rises, Under, under}
+use Rattle.dd_meancycle.proofs.Karp.{cycle_light, IsLowest, HasRise, IsUpperBound, potential_rises, Under, under}
 use Rattle.dd_meancycle.proofs.Gentle.{rise_down}
 
 pub weight_row : (edges : List Edge) (n : ℕ) (levels : List (List (Option ℕ))) (k v : ℕ) → AreRows edges n levels → k < length levels → level_weight_at levels k v ≡ least edges n k v
@@ -54,7 +54,7 @@ least_mean_is edges n levels s mean cycle ps all rows len g r closes ps_len each
     let st = g.steepest in
     let t = closes st.end st.ends in
     let positive : 0 < s.mean.length = omega (arith, st.run_is, st.shorter) in
-    let above : IsAbove edges n s.state st.end s.mean.weight s.mean.length = is_above st in
+    let above : IsUpperBound edges n s.state st.end s.mean.weight s.mean.length = is_above st in
     let light : edges_weight cycle * s.mean.length ≤ s.mean.weight * length cycle =
     cycle_light edges n t.before t.at_state s.state t.weight st.end s.mean.weight s.mean.length cycle t.rest all t.rest_among t.rest_walk t.before_is t.turns t.lengths t.weights above in
     let down : edges_weight cycle * mean.length ≤ mean.weight * length cycle = scaled (edges_weight cycle) (length cycle) s.mean.weight s.mean.length mean.weight mean.length positive r.same light in
@@ -89,7 +89,7 @@ least_mean_is edges n levels s mean cycle ps all rows len g r closes ps_len each
       least = λ es u a w. cycle_weighs edges mean.weight mean.length ps pot es u a w;
     }
   where
-    is_above : (st : IsSteepest levels n s.state s.mean.weight s.mean.length) → IsAbove edges n s.state st.end s.mean.weight s.mean.length
+    is_above : (st : IsSteepest levels n s.state s.mean.weight s.mean.length) → IsUpperBound edges n s.state st.end s.mean.weight s.mean.length
     is_above st = λ k before lt e. st.above k before lt (weight_row edges n levels k s.state rows (omega arith) ∙ e)
 
 some_from : (o : Option ℕ) → is_some o ≡ true → (x : ℕ) × (o ≡ Some x)

@@ -1,5 +1,5 @@
--- The edges of a graph as a list, and the paths and cycles of states that they make. What potentials and ranks say about these paths and cycles, and
--- how large weights, means and potentials are.
+-- The edges of a graph as a list, and the paths and cycles of states that they make. What potentials and ranks say about these paths and cycles.
+-- Bounds on weights, means and potentials.
 use Rattle.std.proofs.Common.{◌≡◌, ℕ, zero, suc, ◌+◌, ◌-◌, ◌*◌, ◌/◌, ◌%◌, ◌<◌, ◌≤◌, ◌^◌, List, [], ◌∷◌, ◌++◌, map, length, get_or, Option, Some, None, arith, refl, sym, ap, ◌∙◌, subst, inl, inr}
 use Rattle.std.proofs.lemmas.{Bool.cases_lt, Int.ints, List.length-map, List.get_or_default}
 use Rattle.std.proofs.lemmas.List.Elements.{Contains-get_or, Contains-append_left, Contains-append_cases, Contains-push, All-contains}

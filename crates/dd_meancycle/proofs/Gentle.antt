@@ -1,4 +1,4 @@
--- The state for which the greatest mean of a rise is least, and means in lowest terms.
+-- The state for which the greatest mean of a rise is the smallest. Means in lowest terms.
 use Rattle.std.proofs.Common.{◌≡◌, ℕ, zero, suc, ◌+◌, ◌-◌, ◌*◌, ◌<◌, ◌≤◌, ◌^◌, ◌/◌, ◌%◌, List, [], ◌∷◌, ◌++◌, length, get_or, Option, Some, None, arith, refl, sym, ap, ◌∙◌, subst, inl, inr}
 use Rattle.std.proofs.lemmas.{Bool.cases_lt, Nat.Gcd.dvd_refl, Nat.Gcd.le_of_dvd, Nat.Gcd.mod-eq-zero_of_dvd}
 use Rattle.std.proofs.Math.Nat.{mul-le-mul_right, le_of_mul-le-mul_right, mul-dvd-mul_left, dvd_of_mul-dvd-mul_left, dvd-mul_right}

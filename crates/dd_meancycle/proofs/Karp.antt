@@ -20,8 +20,8 @@ at_most : (o : Option ℕ) (x y : ℕ) → o ≡ Some y → y ≤ x → IsAtMost
 at_most None x y e h = absurd (cc)
 at_most (Some z) x y e h = let f : z ≡ y = cc in omega arith
 
--- Let a walk of j edges start at a state with a weight in the row k. Then its last state has a weight in the row k + j, which is at most the first
--- weight plus the weight of the walk.
+-- Let a walk of j edges start at a state with a weight in the row k. Then its last state has a weight in the row k + j, and this weight is at most
+-- the first weight plus the weight of the walk.
 pub walk_upper : (edges : List Edge) (n k : ℕ) (es : List Edge) (u v a : ℕ) → All (IsEdgeOf n) edges → AreAmong edges es → IsWalk u es v → least edges n k u ≡ Some a → IsAtMost (least edges n (k + length es) v) (a + edges_weight es)
 walk_upper edges n k [] u v a all among walk is =
     let e : k + 0 ≡ k = omega arith in
@@ -33,15 +33,15 @@ walk_upper edges n k (x ∷ es) u v a all among walk is =
     let e : k + suc (length es) ≡ suc k + length es = omega arith in
     rw e (at_most_more _ (r.value + edges_weight es) (a + (x.weight + edges_weight es)) (omega (arith, r.below)) rest)
 
--- no rise of v to the weight `end` has a mean above m / l
-abbrev pub IsAbove : List Edge → ℕ → ℕ → ℕ → ℕ → ℕ → Type 0
-IsAbove edges n v end m l = (k before : ℕ) → k < n → least edges n k v ≡ Some before → end * l ≤ before * l + m * (n - k)
+-- m / l is an upper bound for the means of all rises of v to the weight `end`
+abbrev pub IsUpperBound : List Edge → ℕ → ℕ → ℕ → ℕ → ℕ → Type 0
+IsUpperBound edges n v end m l = (k before : ℕ) → k < n → least edges n k v ≡ Some before → end * l ≤ before * l + m * (n - k)
 
 -- Let a longest walk to v have the weight `end`. Let it consist of a lightest walk to a state on a cycle, then the cycle, then the rest. If no rise of
 -- v to this weight has a mean above m / l, the mean of the cycle is at most m / l.
 pub cycle_light : (edges : List Edge) (n i x v a end m l : ℕ) (cycle rest : List Edge) → All (IsEdgeOf n) edges →
     AreAmong edges rest → IsWalk x rest v → least edges n i x ≡ Some a → 0 < length cycle → (i + length cycle) + length rest ≡ n →
-    (a + edges_weight cycle) + edges_weight rest ≡ end → IsAbove edges n v end m l → edges_weight cycle * l ≤ m * length cycle
+    (a + edges_weight cycle) + edges_weight rest ≡ end → IsUpperBound edges n v end m l → edges_weight cycle * l ≤ m * length cycle
 cycle_light edges n i x v a end m l cycle rest all among walk is some len weight above =
     let short = under _ _ (walk_upper edges n i rest x v a all among walk is) in
     let h = above (i + length rest) short.value (omega arith) short.is in

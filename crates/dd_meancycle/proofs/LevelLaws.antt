@@ -4,7 +4,7 @@ use Rattle.std.proofs.lemmas.List.{length-set, get_or_past, get_or-replicate, le
 use Rattle.std.proofs.lemmas.{List.Elements.All-head, List.Elements.All-tail, Bool.cases_eq, Bool.cases_lt}
 use Rattle.std.specs.{Prelude.◌⊎◌, List.Contains, List.All, List.fold}
 use Rattle.dd_meancycle.specs.declared.edges.Edge.{Edge}
-use Rattle.dd_meancycle.specs.table.Levels.{at, lowered, lower_at, relaxed, level, row, least, IsAtMost, IsUpToIn, IsRowUpTo, IsEdgeOf}
+use Rattle.dd_meancycle.specs.table.Levels.{at, lowered, lower_at, relaxed, level, row, least, IsAtMost, IsEntryUpTo, IsRowUpTo, IsEdgeOf}
 
 -- a lightest walk of the previous row, followed by an edge, is a walk to v and has the weight b
 pub record Arrives (edges : List Edge) (previous : List (Option ℕ)) (v b : ℕ) : Type 0 where

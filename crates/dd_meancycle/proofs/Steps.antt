@@ -5,7 +5,7 @@ use Rattle.std.proofs.lemmas.List.{get_or_append_left, get_or_push, length-appen
 use Rattle.std.proofs.{lemmas.List.Elements.All-contains, Math.Nat.mul-le-mul_right, Math.Nat.le_of_mul-le-mul_right}
 use Rattle.std.specs.{Prelude.◌⊎◌, List.Contains, List.All, List.find}
 use Rattle.dd_meancycle.specs.declared.{edges.Edge.Edge, rises.Ratio.Ratio}
-use Rattle.dd_meancycle.specs.table.Levels.{at, row, least, IsUpToIn, IsRowUpTo, IsEdgeOf, AreRows, level_weight_at}
+use Rattle.dd_meancycle.specs.table.Levels.{at, row, least, IsEntryUpTo, IsRowUpTo, IsEdgeOf, AreRows, level_weight_at}
 use Rattle.dd_meancycle.specs.table.Rises.{IsSteeper}
 use Rattle.dd_meancycle.proofs.LevelLaws.{Arrives, least_from, row_length}
 
@@ -53,11 +53,11 @@ row_small edges n (suc k) v a all e =
     let sum : n * a ≡ n * (r.before + r.edge.weight) = ap (λ (x : ℕ). n * x) r.sum in
     omega (arith, before, weight, sum)
 
-up_from : (x : ℕ) (o : Option ℕ) → ((b : ℕ) → o ≡ Some b → b ≤ x) → IsUpToIn x o
+up_from : (x : ℕ) (o : Option ℕ) → ((b : ℕ) → o ≡ Some b → b ≤ x) → IsEntryUpTo x o
 up_from x None h = tt
 up_from x (Some b) h = h b refl
 
-pub row_up : (edges : List Edge) (n k v : ℕ) → All (IsEdgeOf n) edges → 0 < n → k ≤ n → IsUpToIn (2 ^ 31) (least edges n k v)
+pub row_up : (edges : List Edge) (n k v : ℕ) → All (IsEdgeOf n) edges → 0 < n → k ≤ n → IsEntryUpTo (2 ^ 31) (least edges n k v)
 row_up edges n k v all pos most = up_from (2 ^ 31) (least edges n k v) (λ b e.
     let small = row_small edges n k v b all e in
     let more : k * 2 ^ 25 ≤ n * 2 ^ 25 = mul-le-mul_right (2 ^ 25) most in

@@ -8,7 +8,7 @@
 //! along each edge of weight w. Then m / l is the least mean, since the rises along a cycle add up to 0. If there is no cycle,
 //! ranks show this. They are natural numbers, one for each state, and the rank falls along each edge.
 //!
-//! `least_mean` first searches for a cycle of least mean and potentials, or for ranks, and checks what it finds. If the check
+//! `least_mean` first searches for a cycle of least mean with potentials, or for ranks, and checks what it finds. If the check
 //! fails, `least_mean` reads its result off a table, which is slower. For each length up to the number of states, and for each
 //! state, this table has the least weight of a walk of this length to this state, if there is such a walk (Karp 1978).
 #![tactic(auto, using(std::proofs::lemmas::Grind::common_steps))]

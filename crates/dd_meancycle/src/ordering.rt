@@ -1,5 +1,5 @@
 //! Ranks for a graph without a cycle, after A. B. Kahn (1962). A state is removed, with the edges that lead from it, once no
-//! edge leads to it any more. The earlier a state is removed, the greater is its rank. The result is checked afterwards, so no
+//! edge leads to it any more. The earlier a state is removed, the greater its rank. The result is checked afterwards, so no
 //! contract says what it is.
 
 use crate::edges::Edge;

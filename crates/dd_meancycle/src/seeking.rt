@@ -49,9 +49,8 @@ fn lower_all(
     lowered
 }
 
-/// If the potential rises along the edge by more than `slope.length * weight - slope.weight`, where `weight` is the weight of
-/// the edge, lowers the potential of the edge's target to that of its source plus this number, and marks the edge. Returns
-/// whether it did.
+/// Lowers the potential of the edge's target to that of the edge's source plus `slope.length * weight - slope.weight`, if it is
+/// greater, and marks the edge. Here `weight` is the weight of the edge. Returns whether the potential was lowered.
 fn lower_along(
     edge: &Edge,
     slope: Slope,

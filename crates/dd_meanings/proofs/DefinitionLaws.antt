@@ -1,5 +1,5 @@
--- Definitions without faults, of automata by cases and of compositions. If the automaton could be made, it is well formed and fits the script's
--- dimension, nodes and symbols. If not, the refusal is right.
+-- Definitions of automata by cases and of compositions, if they have no fault. If the automaton could be made, it is well formed and fits the
+-- script's dimension, nodes and symbols. If not, the refusal is right.
 use Rattle.std.proofs.Common.{◌≡◌, ◌<◌, ◌≤◌, List, [], length, map, slice_index_or, refl, ap, subst, arith}
 use Rattle.std.proofs.lemmas.{List.Elements.All-map, List.Elements.All-get_or, Option.unwrap_or-slice_get}
 use Rattle.std.specs.List.{All, flat_map}

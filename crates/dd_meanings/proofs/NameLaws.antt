@@ -19,7 +19,7 @@ same_name names a b there there' same =
     let other = slice_get-number_of names b (unwrap_or (number_of names b) 0) (grind (arith, common_steps)) in
     let is : Some a ≡ Some b = cc in (cc)
 
--- if a word is a variable, its number is 0, which is the number of `o`, or that of a variable in scope
+-- if a word is a variable, its number is less than the number of variables in scope, counting `o`
 pub variable_below : (bytes : List ℕ) (scope : List Word) (w : Word) → unknown_variable bytes scope w ≡ [] → variable_number bytes scope w < length scope + 1
 variable_below bytes scope w none = grind (arith, common_steps)
 

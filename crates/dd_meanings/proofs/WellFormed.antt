@@ -22,18 +22,18 @@ all_without : {X Y F : Type 0} (p : Y → Bool) (h : X → Y) (g : X → List F)
 all_without p h g each xs none = list_all-map p h xs ∙ list_all-from_AllPass (λ x. p (h x)) xs (all_where (λ x. p (h x) ≡ true) g each xs none)
 
 module _ (x : Context) (same : x.known.setting.topology.nodes ≡ length x.known.setting.nodes) (alphabet : x.known.setting.sets.symbols ≡ length x.known.setting.symbols) where
-  -- whether the formula's numbers are in range, if this many variables (with `o`) are in scope
-  abbrev its_fits : Formula → ℕ → Bool
-  its_fits = formula_fits x.known.setting.topology x.known.setting.sets.symbols
+  -- whether the formula's numbers are in range, if this many variables (counting `o`) are in scope
+  abbrev fits : Formula → ℕ → Bool
+  fits = formula_fits x.known.setting.topology x.known.setting.sets.symbols
 
   abbrev symbol : ℕ → Bool
   symbol n = nat_lt n x.known.setting.sets.symbols
 
-  -- the formula is at most d deep, and its numbers are in range if k variables (with `o`) are in scope
+  -- the formula is at most d deep, and its numbers are in range if k variables (counting `o`) are in scope
   abbrev Fine : Formula → ℕ → ℕ → Type 0
-  Fine f k d = (its_fits f k ≡ true) × (depth f ≤ d)
+  Fine f k d = (fits f k ≡ true) × (depth f ≤ d)
 
-  rolled : (y : Formula-F Formula) (k d : ℕ) → formula_fits_step x.known.setting.topology x.known.setting.sets.symbols (map-Formula Formula (ℕ → Bool) its_fits y) k ≡ true → depth_step (map-Formula Formula ℕ depth y) ≤ d → Fine (roll-Formula y) k d
+  rolled : (y : Formula-F Formula) (k d : ℕ) → formula_fits_step x.known.setting.topology x.known.setting.sets.symbols (map-Formula Formula (ℕ → Bool) fits y) k ≡ true → depth_step (map-Formula Formula ℕ depth y) ≤ d → Fine (roll-Formula y) k d
   rolled y k d fit deep =
       (ap (λ (t : ℕ → Bool). t k) (fold-roll-Formula (ℕ → Bool) (formula_fits_step x.known.setting.topology x.known.setting.sets.symbols) y) ∙ fit, omega (arith, fold-roll-Formula ℕ depth_step y, deep))
 
@@ -117,9 +117,9 @@ module _ (x : Context) (same : x.known.setting.topology.nodes ≡ length x.known
     abbrev faults : List Known → List Fault
     faults fs = flat_map (λ (f : List Word → List Fault). f scope) (map (formula_faults x) (map (λ f. f.0) fs))
 
-    -- chains of `&` or `|`, in which each part has one of these signs above it in the tree
+    -- chains of `&` or `|`: in the tree, each part has exactly one sign above it
     list_is : (j : Join) → ((n i : ℕ) → signs_over j n i ≡ 1) → (n i : ℕ) (fs : List Known) → faults fs ≡ []
-        → (list_all (λ (f : ℕ → Bool). f (length scope + 1)) (map its_fits (meant fs)) ≡ true) × (1 + greatest (map depth (meant fs)) ≤ max 1 (chain_depth j n i (depths fs)))
+        → (list_all (λ (f : ℕ → Bool). f (length scope + 1)) (map fits (meant fs)) ≡ true) × (1 + greatest (map depth (meant fs)) ≤ max 1 (chain_depth j n i (depths fs)))
     list_is j one n i [] none = (refl, omega arith)
     list_is j one n i (f ∷ fs) none =
         let both = both_nil (formula_faults x f.0 scope) (faults fs) none in
@@ -134,7 +134,7 @@ module _ (x : Context) (same : x.known.setting.topology.nodes ≡ length x.known
     -- chains of `->` with n parts: f and fs are part i and the later ones; the formula that joins them lies below i of the signs in the tree of the
     -- whole chain
     implied_is : (n i : ℕ) (f : Known) (fs : List Known) → n ≡ i + (1 + length fs) → faults (f ∷ fs) ≡ []
-        → (its_fits (implied_of (meant (f ∷ fs))) (length scope + 1) ≡ true) × (i + depth (implied_of (meant (f ∷ fs))) ≤ chain_depth Join.Implies n i (depths (f ∷ fs)))
+        → (fits (implied_of (meant (f ∷ fs))) (length scope + 1) ≡ true) × (i + depth (implied_of (meant (f ∷ fs))) ≤ chain_depth Join.Implies n i (depths (f ∷ fs)))
     implied_is n i f [] count none =
         let first = f.1 scope (both_nil (formula_faults x f.0 scope) [] none).0 in
         (first.0, omega (arith, first.1, count))
@@ -198,7 +198,7 @@ module _ (x : Context) (same : x.known.setting.topology.nodes ≡ length x.known
   all_fine = ind-Formula IsFine (λ z y is scope none.
       let made = subst IsFineStep is (step_is y) scope (sym (ap (λ (h : List Word → List Fault). h scope) (written_rolls (List Word → List Fault) (faults_step x) z)) ∙ none) in
       let means = ap (λ (h : List Word → Formula). h scope) (written_rolls (List Word → Formula) (formula_step x) z) in
-      (ap (λ (f : Formula). its_fits f (length scope + 1)) means ∙ made.0, omega (arith, ap depth means, written_rolls ℕ written_step z, made.1)))
+      (ap (λ (f : Formula). fits f (length scope + 1)) means ∙ made.0, omega (arith, ap depth means, written_rolls ℕ written_step z, made.1)))
 
 pub is_formula : (x : Context) (f : Written) → IsSound x.known → formula_faults x f [] ≡ [] → written_depth f ≤ 64 → IsFormula x.known.setting.topology x.known.setting.sets.symbols (formula_of x f [])
 is_formula x f sound none shallow =

@@ -37,13 +37,13 @@ automaton_named x automata w = unwrap_or (slice_get automata (number_in x.text x
 abbrev pub composition_of : Context → List Automaton → Word → Word → Automaton
 composition_of x automata outer inner = automaton.Composed (automaton_named x automata outer) (automaton_named x automata inner)
 
--- the periods of a configuration, with 1 for each axis that the vector doesn't have
+-- the periods of a configuration, with 1 for each axis for which the vector has no entry
 abbrev pub configuration_periods : List ℕ → Vector → List ℕ
 configuration_periods bytes v = period_at bytes v 0 ∷ period_at bytes v 1 ∷ period_at bytes v 2 ∷ []
 
 -- A configuration, with the symbols of a box whose sides are the periods. The symbols are in cell order (by z, then y, then x, then the node). Copies
--- of the box fill the lattice. From one copy to the next along the second axis, the box also moves along the first axis, by the shear. The shear is 0
--- if none is given.
+-- of the box fill the lattice. Each step from one copy to the next along the second axis also shifts the box along the first axis, by the shear. The
+-- shear is 0 if none is given.
 abbrev pub tile_of : Context → Vector → Option Vector → List Name → Tile
 tile_of x periods shear symbols =
     tile (dimension_of x.known) (with_shear (configuration_periods x.text periods) (shear_of x.text shear)) x.known.setting.topology.nodes (map (symbol_of x) symbols)

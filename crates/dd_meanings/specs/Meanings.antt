@@ -32,17 +32,17 @@ meaning x automata (Command.Configuration name periods shear symbols) = Meaning.
 meaning x automata (Command.Query r) = Meaning.Query (query_of x r)
 
 -- the limits that a command's rule or automaton exceeds; this is known only when the rule or automaton is made
-abbrev pub counted_sizes : Context → List Automaton → Command → List Fault
-counted_sizes x automata (Command.Dimension n) = []
-counted_sizes x automata (Command.Nodes names) = []
-counted_sizes x automata (Command.Alphabet names) = []
-counted_sizes x automata (Command.Topology k) = []
-counted_sizes x automata (Command.Edges es) = []
-counted_sizes x automata (Command.Only node symbols) = []
-counted_sizes x automata (Command.Weights ns) = []
-counted_sizes x automata (Command.Limits radius period pivots) = []
-counted_sizes x automata (Command.Rule name f) = rule_faults (rule_of x f)
-counted_sizes x automata (Command.Automaton name cases symbol) = automaton_faults x (automaton_of x cases symbol)
-counted_sizes x automata (Command.Composition name outer inner) = automaton_faults x (composition_of x automata outer inner)
-counted_sizes x automata (Command.Configuration name periods shear symbols) = []
-counted_sizes x automata (Command.Query r) = []
+abbrev pub size_faults : Context → List Automaton → Command → List Fault
+size_faults x automata (Command.Dimension n) = []
+size_faults x automata (Command.Nodes names) = []
+size_faults x automata (Command.Alphabet names) = []
+size_faults x automata (Command.Topology k) = []
+size_faults x automata (Command.Edges es) = []
+size_faults x automata (Command.Only node symbols) = []
+size_faults x automata (Command.Weights ns) = []
+size_faults x automata (Command.Limits radius period pivots) = []
+size_faults x automata (Command.Rule name f) = rule_faults (rule_of x f)
+size_faults x automata (Command.Automaton name cases symbol) = automaton_faults x (automaton_of x cases symbol)
+size_faults x automata (Command.Composition name outer inner) = automaton_faults x (composition_of x automata outer inner)
+size_faults x automata (Command.Configuration name periods shear symbols) = []
+size_faults x automata (Command.Query r) = []

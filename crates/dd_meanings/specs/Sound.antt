@@ -9,7 +9,7 @@ use Rattle.dd_known.specs.{Sound.IsGridOf, Sound.AreWeights, Limits.most_nodes, 
 use Rattle.dd_faults.specs.Order.{Resolves}
 use Rattle.dd_written.specs.Values.{word_text}
 use Rattle.dd_meanings.specs.Tree.{Word, Command, Refusal, Setting, Context}
-use Rattle.dd_meanings.specs.{Made.IsRuleOf, Made.IsAutomatonOf, declared.meaning.Meaning.Meaning, Meanings.meaning, Meanings.counted_sizes}
+use Rattle.dd_meanings.specs.{Made.IsRuleOf, Made.IsAutomatonOf, declared.meaning.Meaning.Meaning, Meanings.meaning, Meanings.size_faults}
 use Rattle.dd_query.specs.Queries.{IsQueryWithin}
 
 -- at least one name and at most `most` of them, and no name twice
@@ -54,4 +54,4 @@ IsSoundMeaning x (Meaning.Query q) = IsQueryWithin x.known q
 -- The result is what the command means, and is sound; or the command is refused for the first limit that its rule or automaton exceeds, or because
 -- memory ran out.
 abbrev pub Means : Result Meaning Refusal → Context → List Automaton → Command → Type 0
-Means result x automata c = Resolves result (counted_sizes x automata c) (meaning x automata c) × OnOk result (IsSoundMeaning x (meaning x automata c))
+Means result x automata c = Resolves result (size_faults x automata c) (meaning x automata c) × OnOk result (IsSoundMeaning x (meaning x automata c))

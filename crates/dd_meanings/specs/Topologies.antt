@@ -11,8 +11,8 @@ use Rattle.dd_query.specs.Vectors.{place_of}
 abbrev pub plain_kind : ℕ → Kind
 plain_kind d = if d == 1 then Kind.Line else (if d == 3 then Kind.Cube else Kind.Square)
 
--- The topology that a script has until it gives one. With one node it is `line`, `square` or `cube`, by the dimension. With more nodes it has no
--- edges, and the script has to give a topology.
+-- The topology that a script has until it gives one. With one node it is `line`, `square` or `cube`, depending on the dimension. With more nodes it
+-- has no edges, and the script has to give a topology.
 abbrev pub default_grid : ℕ → ℕ → Grid
 default_grid d nodes = if nodes == 1 then grid_of (plain_kind d) else grid d nodes [] []
 

@@ -121,8 +121,8 @@ pub(crate) fn composition(
 }
 
 /// What a definition of a configuration means: the configuration with these periods, this shear and these symbols. The symbols
-/// fill a box whose sides are the periods, and copies of the box fill the lattice. From one copy to the next along the second
-/// axis, the box also moves along the first axis, by the shear.
+/// fill a box whose sides are the periods, and copies of the box fill the lattice. Each step from one copy to the next along
+/// the second axis also shifts the box along the first axis, by the shear.
 pub(crate) fn configuration(
     alloc: Global,
     context: &Context,

@@ -4,7 +4,7 @@ ghost use Rattle.std.specs.List.{All};
 ghost use Rattle.dd_commands.specs.{Commands.IsRequest, Scripts.IsWritten};
 ghost use Rattle.dd_known.specs.Sound.{IsSound};
 ghost use Rattle.dd_faults.specs.{Order.Resolves, Commands.request_faults, Commands.written_faults};
-ghost use Rattle.dd_meanings.specs.{Made.IsAutomatonOf, Meanings.meaning, Meanings.counted_sizes, Sound.IsSoundMeaning};
+ghost use Rattle.dd_meanings.specs.{Made.IsAutomatonOf, Meanings.meaning, Meanings.size_faults, Sound.IsSoundMeaning};
 
 use crate::meaning::{Meaning, Resolved};
 use crate::{definitions, header, topologies};
@@ -29,7 +29,7 @@ pub fn mean(
     requires formed { All (IsAutomatonOf context.now.known.setting) automata.now }
     requires written { IsWritten context.now.text written.now }
     requires faultless { written_faults context.now written.now ≡ [] }
-    ensures exact { Resolves result (counted_sizes context.now automata.now written.now.command) (meaning context.now automata.now written.now.command) }
+    ensures exact { Resolves result (size_faults context.now automata.now written.now.command) (meaning context.now automata.now written.now.command) }
     ensures sound { OnOk result (IsSoundMeaning context.now (meaning context.now automata.now written.now.command)) }
 {
     match &written.command {

@@ -31,8 +31,8 @@ fn plain_kind(dimension: u32) -> Kind
     }
 }
 
-/// The topology that a script has until it gives one. With one node it is `line`, `square` or `cube`, by the dimension. With
-/// more nodes it has no edges, and the script has to give a topology.
+/// The topology that a script has until it gives one. With one node it is `line`, `square` or `cube`, depending on the
+/// dimension. With more nodes it has no edges, and the script has to give a topology.
 pub(crate) fn default_topology(alloc: Global, dimension: u32, nodes: u32) -> Made<Topology>
     requires dimension { (1 ≤ dimension) × (dimension ≤ 3) }
     requires nodes { 1 ≤ nodes }

@@ -7,7 +7,7 @@ use Rattle.dd_numbered.specs.{declared.numbered.Numbered.Numbered, Numbered.hold
 use Rattle.dd_formula.specs.LocalRule.{LocalRule, rule_allows}
 use Rattle.dd_forbidden.specs.{Breaking.are_allowed, Breaking.is_true_at_origin, listing.Extensions.AreSymbols, listing.Saying.SaysRule}
 use Rattle.dd_minimal.specs.{declared.outcome.Outcome.Outcome, declared.outcome.Outcome.TheVariants.Barred, Minimal.words}
-use Rattle.dd_minimal.specs.finding.Outcomes.{outcome_behind, known_outcome, of_truth}
+use Rattle.dd_minimal.specs.finding.Outcomes.{outcome_after, known_outcome, of_truth}
 use Rattle.dd_minimal.proofs.AllWords.{words_are}
 use Rattle.dd_values.specs.lemmas.Lists.{flat_map_agree, map_agree, map_flat_map, range_more}
 
@@ -43,10 +43,10 @@ behind_at r a start s ss al rest is =
     ∙ ap (λ qs. cond rest (of_truth (is_true_at_origin r a qs)) Barred) (sym (append_assoc start (s ∷ []) ss))
 
 pub part_allowed : (r : LocalRule) (a : ℕ) (c : Cell) (cs rest : List Cell) (start : List ℕ) (m n s : ℕ) → rest ≡ c ∷ cs → rule_allows r c.node s ≡ true →
-    part (outcome_behind r a rest start) m n s ≡ map (outcome_behind r a cs (start ++ s ∷ [])) (words m n)
+    part (outcome_after r a rest start) m n s ≡ map (outcome_after r a cs (start ++ s ∷ [])) (words m n)
 part_allowed r a c cs rest start m n s split is =
-    ap (λ ds. part (outcome_behind r a ds start) m n s) split
-    ∙ map_agree (λ ss. outcome_behind r a (c ∷ cs) start (s ∷ ss)) (outcome_behind r a cs (start ++ s ∷ [])) (words m n)
+    ap (λ ds. part (outcome_after r a ds start) m n s) split
+    ∙ map_agree (λ ss. outcome_after r a (c ∷ cs) start (s ∷ ss)) (outcome_after r a cs (start ++ s ∷ [])) (words m n)
     (λ ss at. behind_at r a start s ss (rule_allows r c.node s) (are_allowed r cs ss) is)
 
 barred_at : (al rest : Bool) (o : Outcome) → al ≡ false → cond (al && rest) o Barred ≡ cond rest Barred Barred
@@ -54,10 +54,10 @@ barred_at al true o is = ap (λ b. cond (b && true) o Barred) is
 barred_at al false o is = ap (λ b. cond (b && false) o Barred) is
 
 pub part_barred : (r : LocalRule) (a : ℕ) (c : Cell) (cs rest : List Cell) (start : List ℕ) (m n s : ℕ) → rest ≡ c ∷ cs → rule_allows r c.node s ≡ false →
-    part (outcome_behind r a rest start) m n s ≡ map (known_outcome r cs Barred) (words m n)
+    part (outcome_after r a rest start) m n s ≡ map (known_outcome r cs Barred) (words m n)
 part_barred r a c cs rest start m n s split is =
-    ap (λ ds. part (outcome_behind r a ds start) m n s) split
-    ∙ map_agree (λ ss. outcome_behind r a (c ∷ cs) start (s ∷ ss)) (known_outcome r cs Barred) (words m n)
+    ap (λ ds. part (outcome_after r a ds start) m n s) split
+    ∙ map_agree (λ ss. outcome_after r a (c ∷ cs) start (s ∷ ss)) (known_outcome r cs Barred) (words m n)
     (λ ss at. barred_at (rule_allows r c.node s) (are_allowed r cs ss) (of_truth (is_true_at_origin r a (start ++ s ∷ ss))) is)
 
 known_at : (al rest : Bool) (o : Outcome) → cond (al && rest) o Barred ≡ cond rest (cond al o Barred) Barred
@@ -75,9 +75,9 @@ part_known r c cs rest o m n s split =
 -- ---- the first symbols settle the truth of the formula
 
 pub all_settled : (r : LocalRule) (a : ℕ) (e : Numbered) (rest : List Cell) (start begun : List ℕ) (truth value : Bool) → SaysRule r a e → AreSymbols r start → begun ≡ start → value ≡ truth → IsSettled e begun value →
-    map (known_outcome r rest (of_truth truth)) (words r.symbols (length rest)) ≡ map (outcome_behind r a rest start) (words r.symbols (length rest))
+    map (known_outcome r rest (of_truth truth)) (words r.symbols (length rest)) ≡ map (outcome_after r a rest start) (words r.symbols (length rest))
 all_settled r a e rest start begun truth value says below same is settled =
-    map_agree (known_outcome r rest (of_truth truth)) (outcome_behind r a rest start) (words r.symbols (length rest))
+    map_agree (known_outcome r rest (of_truth truth)) (outcome_after r a rest start) (words r.symbols (length rest))
     (λ ss c.
     let symbols = All-append (λ s. s < r.symbols) start ss below (words_are r.symbols (length rest) ss c).below in
     let so : is_true_at_origin r a (start ++ ss) ≡ truth =
@@ -86,7 +86,7 @@ all_settled r a e rest start begun truth value says below same is settled =
 
 -- no cell is left, so the table has one entry
 pub leaf : (r : LocalRule) (a m : ℕ) (e : Numbered) (rest : List Cell) (start now : List ℕ) (truth : Bool) → SaysRule r a e → AreSymbols r start → length rest ≡ 0 → now ≡ start → truth ≡ holds_in e now →
-    of_truth truth ∷ [] ≡ map (outcome_behind r a rest start) (words m (length rest))
+    of_truth truth ∷ [] ≡ map (outcome_after r a rest start) (words m (length rest))
 leaf r a m e [] start now truth says below none same is =
     ap (λ t. of_truth t ∷ []) (is ∙ (ap (holds_in e) same ∙ (says start below ∙ ap (is_true_at_origin r a) (sym (append-nil start)))))
 leaf r a m e (c ∷ cs) start now truth says below none same is = absurd (omega (arith, none))

@@ -20,7 +20,7 @@ abbrev pub all_break : LocalRule → ℕ → List (Option ℕ) → Bool
 all_break r a p = list_all (λ ss. not (agrees p ss && is_spared r a ss)) (words r.symbols (length (cells_at r a)))
 
 -- The cells of a filling are taken in order. A cell is left out if the pattern without it, with all later cells kept, still satisfies the test
--- `enough`. For the later cells, the test puts this cell's entry in front of a pattern and then applies `enough`.
+-- `enough`. The later cells are then thinned by the test that puts this cell's entry in front of a pattern and applies `enough`.
 abbrev pub thinned : (List (Option ℕ) → Bool) → List ℕ → List (Option ℕ)
 thinned enough [] = []
 thinned enough (s ∷ ss) =

@@ -6,7 +6,7 @@ ghost use Rattle.dd_formula.specs.LocalRule.{cells_at};
 ghost use Rattle.dd_forbidden.specs.listing.Extensions.{AreOf, AreSymbols};
 ghost use Rattle.dd_forbidden.specs.listing.Saying.{SaysRule};
 ghost use Rattle.dd_minimal.specs.Minimal.{words};
-ghost use Rattle.dd_minimal.specs.finding.Outcomes.{known_outcome, outcome_behind, outcomes};
+ghost use Rattle.dd_minimal.specs.finding.Outcomes.{known_outcome, outcome_after, outcomes};
 
 use crate::outcome::Outcome;
 use dd_formula::Rule;
@@ -44,7 +44,7 @@ fn fill(
     requires formula { SaysRule rule.now node formula.now }
     requires rest { AreOf rule.now rest.now }
     requires symbols { AreSymbols rule.now symbols.old }
-    ensures table { OnOk result (table.new ≡ table.old ++ map (outcome_behind rule.now node rest.now symbols.old) (words rule.now.symbols (length rest.now))) }
+    ensures table { OnOk result (table.new ≡ table.old ++ map (outcome_after rule.now node rest.now symbols.old) (words rule.now.symbols (length rest.now))) }
     ensures symbols { OnOk result (symbols.new ≡ symbols.old) }
 {
     let Some((cell, later)) = rest.split_first() else {

@@ -7,8 +7,8 @@ ghost use Rattle.dd_minimal.specs.Patterns.{is_covered};
 ghost use Rattle.dd_minimal.specs.Minimal.{IsMinimalList};
 ghost use Rattle.dd_minimal.specs.Claims.{NeedsEach, AreNew};
 
-/// Does nothing. Its contract is about fillings of the cells that the rule reads, with allowed symbols. It says that the rule
-/// is false under such a filling exactly when the filling agrees with a listed pattern.
+/// Does nothing. Its contract says that the rule is false under a filling with allowed symbols exactly when the filling agrees
+/// with a listed pattern.
 pub fn exact()
     ensures { (r : LocalRule) (a : ℕ) (ps : List (List (Option ℕ))) (ss : List ℕ) → IsRule r → IsMinimalList r a ps →
         are_allowed r (cells_at r a) ss ≡ true → (is_true_at_origin r a ss ≡ false) ↔ (is_covered ps ss ≡ true) }

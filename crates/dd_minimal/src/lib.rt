@@ -4,10 +4,11 @@
 //! reads at the node. It breaks the rule if the cells' nodes allow these symbols and the rule is false under them; then it is
 //! called a breaking filling. A pattern keeps some of the cells, each with a symbol, and leaves the others out. A filling
 //! agrees with the pattern if it has the same symbols at the cells that the pattern keeps. The pattern is forbidden if every
-//! filling with allowed symbols that agrees with it breaks the rule. A forbidden pattern is minimal if no pattern that leaves
-//! out a further cell is forbidden. The minimal list is the one that `minimal` makes. Its patterns are minimal, and together
-//! they forbid exactly what the rule forbids: a filling with allowed symbols breaks the rule exactly when it agrees with one of
-//! them. The list need not have all minimal patterns. Cells are listed in cell order: by z, then y, then x, then the node.
+//! filling with allowed symbols that agrees with it breaks the rule. A forbidden pattern is minimal if leaving out any further
+//! cell gives a pattern that isn't forbidden. The minimal list is the one that `minimal` makes. Its patterns are minimal, and
+//! together they forbid exactly what the rule forbids: a filling with allowed symbols breaks the rule exactly when it agrees
+//! with one of them. The list need not contain all minimal patterns. Cells are listed in cell order: by z, then y, then x, then
+//! the node.
 //!
 //! A filling has one of three outcomes: a symbol isn't allowed, or all are allowed and the rule is false, or all are allowed
 //! and the rule is true. All fillings, whatever their outcomes, are numbered from 0 in lexicographic order. The stride of a

@@ -12,12 +12,12 @@ use dd_formula::Rule;
 use std::alloc::Global;
 
 /// The minimal list of the rule at the node. Its patterns are minimal, and together they forbid exactly what the rule forbids
-/// there. A shorter list may forbid the same. A breaking filling gives each cell that the rule reads there a symbol that the
-/// cell's node allows, and the rule is false under these symbols. The breaking fillings are taken in the lexicographic order of
-/// their symbols. A breaking filling that agrees with an already listed pattern is skipped. Each of the others is thinned to a
-/// pattern, which is listed. Thinning starts from the pattern that keeps all cells, and goes through them in cell order (by z,
-/// then y, then x, then the node). It leaves a cell out if every filling with allowed symbols that agrees with the rest of the
-/// pattern breaks the rule.
+/// there. There may be a shorter list that does the same. A breaking filling gives a symbol to each cell that the rule reads
+/// there. The cells' nodes allow these symbols, and the rule is false under them. The breaking fillings are taken in the
+/// lexicographic order of their symbols. A breaking filling that agrees with an already listed pattern is skipped. Each of the
+/// others is thinned to a pattern, which is listed. Thinning starts from the pattern that keeps all cells, and goes through
+/// them in cell order (by z, then y, then x, then the node). It leaves a cell out if every filling with allowed symbols that
+/// agrees with the rest of the pattern breaks the rule.
 ///
 /// # Errors
 /// `Size` if the cells that are read have more than 65,536 fillings over the whole alphabet. Otherwise `Memory`, if memory runs

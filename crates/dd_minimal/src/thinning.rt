@@ -7,7 +7,7 @@ ghost use Rattle.dd_minimal.specs.finding.States.{IsThinned};
 ghost use Rattle.dd_minimal.specs.declared.outcome.Outcome.TheVariants.{Barred};
 
 use crate::outcome::Outcome;
-use crate::walking::can_spare;
+use crate::walking::can_leave_out;
 use dd_values::Items;
 use std::alloc::{AllocError, Global};
 
@@ -18,7 +18,7 @@ pub(crate) struct Thinned {
 }
 
 /// Thins the breaking filling with the number `at`: goes through its cells in cell order, and leaves out each one that can be
-/// left out. The call clears `left_out`, and then puts the strides of the cells that are left out into it. `symbols` is the
+/// left out. The call clears `left_out`, and then pushes onto it the strides of the cells that are left out. `symbols` is the
 /// size of the alphabet. `strides` has the stride of each cell, and `table` the outcome of each filling.
 pub(crate) fn thin(
     alloc: Global,
@@ -41,7 +41,7 @@ pub(crate) fn thin(
     for stride in strides {
         let symbol = digit(at, *stride, symbols);
         let without = from - symbol as usize * *stride;
-        if can_spare(
+        if can_leave_out(
             symbols,
             symbol,
             *stride,

@@ -1,6 +1,6 @@
 //! Walks over the fillings that agree with a pattern. A walk begins at `from`, the number of the filling that agrees with the
-//! pattern and has the symbol 0 at every cell that the pattern leaves out. It goes on along `strides`, the strides of the cells
-//! left out, so that these cells take all combinations of the symbols from 0 to `symbols - 1`.
+//! pattern and has the symbol 0 at every cell that the pattern leaves out. From there it moves along `strides`, the strides of
+//! the cells left out, so that these cells take all combinations of the symbols from 0 to `symbols - 1`.
 ghost use Rattle.std.specs.Prelude.{◌≡◌, ◌<◌, ◌≤◌, ◌+◌, ◌*◌, ◌-◌, ◌++◌, ◌∷◌, [], true, length};
 ghost use Rattle.dd_minimal.specs.finding.Numbers.{reach};
 ghost use Rattle.dd_minimal.specs.finding.Walks.{marked, none_holds};
@@ -27,7 +27,7 @@ pub(crate) fn none_holds(symbols: u32, strides: &[usize], table: &[Outcome], fro
 /// The answer of `none_holds` for a walk along `strides` and then along `stride`, the stride of one more cell. If the answer is
 /// yes, this cell can be left out too. The call skips the fillings in which the cell has the symbol `kept`. The caller already
 /// knows that the rule is true under no such filling with allowed symbols.
-pub(crate) fn can_spare(
+pub(crate) fn can_leave_out(
     symbols: u32,
     kept: u32,
     stride: usize,

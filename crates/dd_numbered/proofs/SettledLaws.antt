@@ -3,7 +3,7 @@ use Rattle.std.proofs.Common.{◌≡◌, ℕ, zero, suc, Bool, List, [], ◌∷�
 use Rattle.std.specs.Prelude.{IfSome, Option, ◌==◌}
 use Rattle.dd_expansion.specs.Truth.{is_symbol}
 use Rattle.dd_numbered.specs.{declared.numbered.Numbered.Numbered, Numbered.holds_in, Numbered.IsSettled}
-use Rattle.dd_numbered.specs.settling.Parts.{AreAllSettled, IsAnySettled, IsLeafSettled}
+use Rattle.dd_numbered.specs.settling.Parts.{IsConjunctionSettled, IsDisjunctionSettled, IsLeafSettled}
 use Rattle.dd_numbered.proofs.Layers.{holds_and, holds_or}
 use Rattle.dd_numbered.specs.declared.numbered.Numbered.TheVariants as formula
 
@@ -12,10 +12,10 @@ if_some : {P Q : Bool → Type 0} (o : Option Bool) → ((b : Bool) → P b → 
 if_some None f h = tt
 if_some (Some b) f h = f b h
 
-pub settled_and : (es : List Numbered) (e : Numbered) (ss : List ℕ) (o : Option Bool) → e ≡ formula.And es → IfSome o (AreAllSettled es ss) → IfSome o (IsSettled e ss)
+pub settled_and : (es : List Numbered) (e : Numbered) (ss : List ℕ) (o : Option Bool) → e ≡ formula.And es → IfSome o (IsConjunctionSettled es ss) → IfSome o (IsSettled e ss)
 settled_and es e ss o is = if_some o (λ b h more. ap (λ x. holds_in x (ss ++ more)) is ∙ (holds_and es (ss ++ more) ∙ h more))
 
-pub settled_or : (es : List Numbered) (e : Numbered) (ss : List ℕ) (o : Option Bool) → e ≡ formula.Or es → IfSome o (IsAnySettled es ss) → IfSome o (IsSettled e ss)
+pub settled_or : (es : List Numbered) (e : Numbered) (ss : List ℕ) (o : Option Bool) → e ≡ formula.Or es → IfSome o (IsDisjunctionSettled es ss) → IfSome o (IsSettled e ss)
 settled_or es e ss o is = if_some o (λ b h more. ap (λ x. holds_in x (ss ++ more)) is ∙ (holds_or es (ss ++ more) ∙ h more))
 
 -- a symbol of a list keeps its index when more symbols follow

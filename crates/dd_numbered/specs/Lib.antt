@@ -2,5 +2,6 @@
 pub mod Numbering
 -- Formulas over a list of symbols: their truth, and how expansions become such formulas.
 pub mod Numbered
--- What it means that the first symbols of a list settle whether a leaf is true, whether all of several formulas are true, or whether at least one is.
+-- What it means for the first symbols of a list to settle whether a leaf is true, whether all of several formulas are true, or whether at least one
+-- is.
 pub mod settling

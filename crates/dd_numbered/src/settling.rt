@@ -1,7 +1,7 @@
 //! The truth of a formula when only the first symbols of a list are known, by the three-valued logic of Kleene (1938).
 ghost use Rattle.std.specs.Prelude.{IfSome};
 ghost use Rattle.dd_numbered.specs.Numbered.{IsSettled};
-ghost use Rattle.dd_numbered.specs.settling.Parts.{AreAllSettled, IsAnySettled, IsLeafSettled};
+ghost use Rattle.dd_numbered.specs.settling.Parts.{IsConjunctionSettled, IsDisjunctionSettled, IsLeafSettled};
 
 use crate::numbered::Numbered;
 
@@ -47,7 +47,7 @@ fn leaf_settled(symbols: &[u32], number: usize, symbol: u32) -> Option<bool>
 /// result is `None`.
 #[cycle(settled)]
 fn all_settled(parts: &[Numbered], symbols: &[u32]) -> Option<bool>
-    ensures { IfSome result (AreAllSettled parts.now symbols.now) }
+    ensures { IfSome result (IsConjunctionSettled parts.now symbols.now) }
 {
     let mut known = true;
     for part in parts {
@@ -64,7 +64,7 @@ fn all_settled(parts: &[Numbered], symbols: &[u32]) -> Option<bool>
 /// is `None`.
 #[cycle(settled)]
 fn some_settled(parts: &[Numbered], symbols: &[u32]) -> Option<bool>
-    ensures { IfSome result (IsAnySettled parts.now symbols.now) }
+    ensures { IfSome result (IsDisjunctionSettled parts.now symbols.now) }
 {
     let mut known = true;
     for part in parts {

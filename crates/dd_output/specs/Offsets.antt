@@ -1,4 +1,4 @@
--- What reading the bytes gives. If they aren't the text of an output, they have an offset: the length of their longest prefix with which some
+-- The result of reading the bytes. If they aren't the text of an output, they have an offset: the length of their longest prefix with which some
 -- output begins.
 use Rattle.std.specs.Prelude.{◌≡◌, ℕ, ◌<◌, ◌≤◌, List, ◌++◌, length, take, Result, Ok, Err}
 use Rattle.dd_output.specs.declared.{output.Output.Output, fault.CertificateFault.CertificateFault}

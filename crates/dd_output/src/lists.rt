@@ -110,7 +110,7 @@ pub(crate) fn numbers_until<'a>(
     }
 }
 
-/// One of the two bytes that can end the number with this index in a line of at least `least` numbers. The first number has the
+/// One of the two bytes that can end the number with this index in a line of at least `least` numbers. The first number has
 /// index 0. The byte is a space if more numbers have to follow, and a line feed otherwise. `other_at` gives the other byte,
 /// which may be the same.
 pub(crate) fn end_at(least: u64, index: u64) -> u8

@@ -32,8 +32,8 @@ fn answers_text(alloc: Global, answers: &[Answer]) -> Result<Vec<u8>, AllocError
     Ok(text)
 }
 
-/// The text of an output within bounds: its script, the answers to its queries in order, and the end. Fails only if memory runs
-/// out.
+/// The text of an output within bounds: the script, the answers to the script's queries in order, and the end. Fails only if
+/// memory runs out.
 pub fn write_output(alloc: Global, output: &Output) -> Result<Vec<u8>, AllocError>
     requires { IsWritableOutput output.now }
     ensures { IfOk result (λ text. text.items ≡ output_text output.now) }

@@ -1,6 +1,6 @@
--- what reads and writes do to the bytes left in a source and held by a sink, and counts that stop at 2^64 - 1
+-- the effects of reads and writes on the bytes left in a source or held by a sink; also counts that stop at 2^64 - 1
 pub mod Bytes
--- what a source and a sink in memory hold, how they were set up, how many of their calls were made, and how many failed
+-- what a source and a sink in memory hold, how they were set up, how many calls were made to them, and how many of these failed
 pub mod Memory
 -- lemmas on these definitions, with their proofs
 pub mod lemmas

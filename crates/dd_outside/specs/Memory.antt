@@ -1,4 +1,4 @@
--- What a source and a sink in memory hold, how they were set up, how many of their calls were made, and how many failed. These counts stop at
+-- What a source and a sink in memory hold, how they were set up, how many calls were made to them, and how many of these failed. These counts stop at
 -- 2^64 - 1.
 use Rattle.std.specs.Prelude.{ℕ, ◌+◌, ◌-◌, List, length, take, drop}
 use Rattle.dd_outside.specs.{Bytes.capped, declared.memory.MemorySource.MemorySource, declared.memory.MemorySink.MemorySink}

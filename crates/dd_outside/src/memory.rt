@@ -1,5 +1,5 @@
-//! A source and a sink in memory. The reads of the source, and the writes of the sink, are numbered from 1. A list says which
-//! of these calls are to fail.
+//! A source and a sink in memory. The reads from the source are numbered from 1, and so are the writes to the sink. For each of
+//! the two, a list says which calls are to fail.
 ghost use Rattle.std.specs.Prelude.{◌≡◌, ◌+◌, ◌-◌, ◌^◌, ◌<◌, ◌≤◌, ◌↔◌, [], ◌++◌, Some, length, take, drop, min, ◌⊎◌, Contains, IfOk, IsTrue, IsErr};
 
 use crate::faults::Failed;
@@ -69,7 +69,7 @@ pub struct MemorySource {
 impl MemorySource {
     ghost use Rattle.dd_outside.specs.Memory.{source_step, source_failing, source_calls};
 
-    /// A source of these bytes. `step` is at least 1. `failing` lists the numbers of the calls that fail.
+    /// A source of these bytes. `step` must be at least 1. `failing` lists the numbers of the calls that fail.
     pub fn new(bytes: Vec<u8>, step: usize, failing: Vec<u64>) -> Self
         requires { 1 ≤ step }
         ensures left { ⟦<MemorySource as Source>⟧.left result ≡ Some bytes.items }
@@ -150,8 +150,8 @@ pub struct MemorySink {
 impl MemorySink {
     ghost use Rattle.dd_outside.specs.Memory.{sink_free, sink_step, sink_failing, sink_calls};
 
-    /// An empty sink that holds at most `capacity` bytes. `step` is at least 1. `failing` lists the numbers of the calls that
-    /// are to fail. A write allocates nothing.
+    /// An empty sink that holds at most `capacity` bytes. `step` must be at least 1. `failing` lists the numbers of the calls
+    /// that are to fail. A write allocates nothing.
     ///
     /// # Errors
     /// `AllocError` if memory ran out.

@@ -1,11 +1,12 @@
--- The goal that the automata of a pair differ, and the question about a conjugacy, which has four such goals, as values of the program.
+-- Which values of the program stand for the goal that the automata of a pair differ, and for the question about a conjugacy, which has four such
+-- goals.
 use Rattle.std.specs.Prelude.{◌≡◌, List, [], ◌∷◌}
 use Rattle.dd_boxes.specs.{declared.goals.Goal.Goal, Views.goal_of}
 use Rattle.dd_formula.specs.LocalRule.{LocalRule}
 use Rattle.dd_question.specs.{Conjugacies.ConjugacyOf, Conjugacies.conjugacy_of, declared.conjugacy.Conjugacy.Conjugacy}
 use Rattle.dd_pairs.specs.{declared.pair.Pair.Pair, Comparisons.difference}
 
--- the goal says that the automata of the pair differ, whatever the premise of the question is
+-- whatever the premise of the question is, the goal says that the automata of the pair differ
 abbrev pub IsDifferenceOf : Pair → Goal → Type 0
 IsDifferenceOf p g = (x : LocalRule) → goal_of x g ≡ difference x p
 

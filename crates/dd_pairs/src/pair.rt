@@ -8,7 +8,7 @@ use dd_faults::Limit;
 use dd_formula::{Automaton, Rule};
 use dd_question::{Conjugacy, Excess, Question};
 
-/// Two automata. The question about them is whether they can differ.
+/// Two automata. The question about them is whether they always agree.
 #[derive(Debug, Drop)]
 pub struct Pair {
     pub left: Automaton,
@@ -47,7 +47,7 @@ impl Pair {
         Goal::Differ(&self.left, &self.right)
     }
 
-    /// The question whether the two automata can differ on a configuration that obeys the premise.
+    /// The question whether the two automata agree on every configuration that obeys the premise.
     pub fn question<'a>(&'a self, premise: &'a Rule) -> Question<'a>
         ensures { asked_of result ≡ box premise.now (difference premise.now self.now) }
     {
@@ -56,9 +56,10 @@ impl Pair {
     }
 }
 
-/// The question whether a map from `from` to `to` and a map back are inverse to each other. It is given by the two rules and
-/// four goals, one for each pair. There must be four pairs: in order, one for the image under the map, one for the image under
-/// the map back, one for the map followed by the map back, and one for the map back followed by the map.
+/// The question whether a map from the configurations that obey `from` to those that obey `to`, and a map back, are inverse to
+/// each other. It is given by the two rules and four goals, one for each pair. There must be four pairs: in order, one for the
+/// image under the map, one for the image under the map back, one for the map followed by the map back, and one for the map
+/// back followed by the map.
 pub fn conjugacy<'a>(from: &'a Rule, to: &'a Rule, pairs: &'a [Pair]) -> Conjugacy<'a>
     requires { length pairs.now ≡ 4 }
     ensures { IsConjugacyBy from.now to.now pairs.now result }

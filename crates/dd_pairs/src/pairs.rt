@@ -46,7 +46,7 @@ fn pair(alloc: Global, setting: &Setting, comparison: Comparison) -> Result<Pair
 }
 
 /// The pair that a comparison asks about. The error is the first limit that the pair exceeds. If the pair exceeds none, but the
-/// question about it exceeds the limit on clauses, the error is this limit. A lack of memory is an error, too.
+/// question about it exceeds the limit on clauses, the error is this limit. The error may also say that memory ran out.
 fn tested(alloc: Global, known: &Known, comparison: Comparison) -> Result<Pair, Refusal>
     requires sound { IsSound known.now }
     requires two { 2 ≤ length known.now.setting.symbols }
@@ -75,7 +75,7 @@ fn made(alloc: Global, known: &Known, comparisons: &[Comparison]) -> Result<Item
     Ok(pairs)
 }
 
-/// The pairs that a query asks about, in the order of its questions. There are none unless the query is about an image or a
+/// The pairs that are made for a query, in the order of its questions. There are none unless the query is about an image or a
 /// conjugacy. The numbers of such a query are indices into `rules` and `automata`.
 ///
 /// # Errors
@@ -129,7 +129,7 @@ pub fn pairs_of(
     }
 }
 
-/// Whether a query asks about pairs, that is, whether it is about an image or a conjugacy.
+/// Whether pairs are made for a query, that is, whether it is about an image or a conjugacy.
 pub fn asks_pairs(query: &Query) -> bool
     ensures { result ≡ asks_pairs query.now }
 {

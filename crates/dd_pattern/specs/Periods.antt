@@ -24,11 +24,11 @@ pub record ArePeriodsIn (d : ℕ) (p : Periods) : Type 0 where
   pub shear_small : p.shear < p.x
   pub shear_unused : d < 2 → p.shear ≡ 0
 
--- for a positive n: a whole number modulo n, from 0 to n - 1
+-- for a positive n: an integer modulo n, from 0 to n - 1
 abbrev pub residue : ℤ → ℕ → ℕ
 residue x n = unsigned_abs (int_rem_euclid x (pos n))
 
--- for a positive n: a whole number divided by n, rounded down
+-- for a positive n: an integer divided by n, rounded down
 abbrev pub quotient : ℤ → ℕ → ℤ
 quotient x n = int_div_euclid x (pos n)
 

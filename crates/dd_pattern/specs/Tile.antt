@@ -55,7 +55,7 @@ cell_in t i =
     let k = i / t.nodes in
     cell (place (pos (k % p.x)) (pos (k / p.x % p.y)) (pos (k / p.x / p.y))) (i % t.nodes)
 
--- the positions of the fundamental box: on each axis the coordinate is from 0 to the period minus 1
+-- the bounds of the fundamental box: on each axis the coordinates run from 0 to the period minus 1
 abbrev pub fundamental : Periods → Bounds
 fundamental p = record { low = place (pos 0) (pos 0) (pos 0); high = place (pos (p.x - 1)) (pos (p.y - 1)) (pos (p.z - 1)) }
 

@@ -92,7 +92,7 @@ impl Periodic {
     /// cases, and the error gives the symbols back:
     /// - `dim` isn't 1, 2 or 3, or `nodes` is 0.
     /// - A period is 0, or the period of an unused axis isn't 1.
-    /// - The shear isn't less than the first period, or isn't 0 in one dimension.
+    /// - The shear isn't less than the first period, or `dim` is 1 and the shear isn't 0.
     /// - The number of symbols isn't the product of `nodes` and the three periods, or exceeds 65,536.
     pub fn new(
         dim: u32,

@@ -30,8 +30,8 @@ pub struct Periods {
 }
 
 impl Periods {
-    /// All valid periods in `dim` dimensions whose `x`, `y` and `z` are at most `most`, with every possible shear, in the order
-    /// of periods. Fails only if memory runs out.
+    /// All valid periods in `dim` dimensions whose `x`, `y` and `z` are at most `most`, with every possible shear, in ascending
+    /// order. Fails only if memory runs out.
     pub fn within(alloc: Global, dim: u32, most: u32) -> Result<Vec<Periods>, AllocError>
         ensures ascending { IfOk result (λ v. IsStrictlySortedBy periods_cmp v.items) }
         ensures members { IfOk result (λ v. AreAllWithin dim most v.items) }
@@ -81,8 +81,8 @@ impl PartialOrd for Periods {
     }
 }
 
-/// How many values the period of an axis can have: `most` if the axis is one of the first `dim`, else 1. The values of the
-/// shear are counted in the same way, with axis 1. The axes are numbered from 0.
+/// How many values the period of an axis can have: `most` if the axis is one of the first `dim`, else 1. With axis 1, and `x`
+/// as `most`, this is also the number of values that the shear can have. The axes are numbered from 0.
 fn most_along(dim: u32, axis: u32, most: u32) -> u32
     ensures { result ≡ most_along dim axis most }
 {
@@ -134,7 +134,7 @@ fn add_plane(found: &mut BTreeSet<Periods>, dim: u32, most: u32, x: u32) -> Resu
     Ok(())
 }
 
-/// The periods of the set, in the order of periods.
+/// The periods of the set, in ascending order.
 fn listed(alloc: Global, found: &BTreeSet<Periods>) -> Result<Vec<Periods>, AllocError>
     ensures list { IfOk result (λ v. v.items ≡ found.now.keys) }
     ensures ascending { IfOk result (λ v. IsStrictlySortedBy periods_cmp v.items) }
@@ -142,7 +142,7 @@ fn listed(alloc: Global, found: &BTreeSet<Periods>) -> Result<Vec<Periods>, Allo
     found.iter().copied().collect(alloc)
 }
 
-/// The whole number `x` modulo `n`, from 0 to `n - 1`.
+/// The integer `x` modulo `n`, from 0 to `n - 1`.
 pub(crate) fn residue(x: i64, n: u32) -> u32
     requires some { 0 < n }
     ensures value { result ≡ residue x n }

@@ -5,7 +5,7 @@ use Rattle.dd_lattice.specs.{Order.cell_cmp, Boxes.Bounds, Boxes.centred, Boxes.
 use Rattle.dd_clause.specs.Clauses.{ClauseList}
 use Rattle.dd_compile.specs.Wiring.{Wiring}
 use Rattle.dd_formula.specs.LocalRule.{LocalRule, IsRule}
-use Rattle.dd_boxes.specs.{Goals.GoalOf, Boxes.Reaches, Counts.question_clauses, Counts.most_clauses, Cells.box_cells}
+use Rattle.dd_boxes.specs.{Goals.GoalOf, Boxes.ReadsWithin, Counts.question_clauses, Counts.most_clauses, Cells.box_cells}
 use Rattle.dd_problem.specs.{pushing.GoalFacts.HasGoalFacts, Layouts.cells_in, Problems.box_problem, pushing.Numbered.in_turn}
 use Rattle.dd_problem.specs.pushing.Pushed.{AreInputs, is_goal_wired, wired_problem}
 use Rattle.dd_problem.specs.{Shows.Shows, Shows.DecidesBox, lemmas.Filtered.some_same}
@@ -52,25 +52,25 @@ pub signals_there : (x : LocalRule) (n : ℕ) (cells : List Cell) (w : Wiring) �
 signals_there x n cells w is read =
     subst (AreInputs (length cells * x.symbols)) (sym is) (subst (λ (cs : List Cell). AreInputs (length cs * x.symbols) (in_turn x.symbols (box_cells x n))) (sym read) (box_inputs x n))
 
-pub goal_wired : (x : LocalRule) (g : GoalOf) (n : ℕ) (cells : List Cell) (w : Wiring) → IsRule x → HasGoalFacts x g → Reaches g n → IsFew x g n →
+pub goal_wired : (x : LocalRule) (g : GoalOf) (n : ℕ) (cells : List Cell) (w : Wiring) → IsRule x → HasGoalFacts x g → ReadsWithin g n → IsFew x g n →
     w ≡ in_turn x.symbols (box_cells x n) → cells ≡ box_cells x n → is_goal_wired w (length cells * x.symbols) g ≡ true
 goal_wired x g n cells w rule ok reach few is read =
     ap (λ v. is_goal_wired v (length cells * x.symbols) g) is
     ∙ (ap (λ (cs : List Cell). is_goal_wired (in_turn x.symbols (box_cells x n)) (length cs * x.symbols) g) read ∙ box_goal_wired x g n rule ok reach (radius_small x g n rule few))
 
-pub problem_is : (x : LocalRule) (g : GoalOf) (n : ℕ) (cells : List Cell) (w : Wiring) → IsRule x → HasGoalFacts x g → Reaches g n → IsFew x g n →
+pub problem_is : (x : LocalRule) (g : GoalOf) (n : ℕ) (cells : List Cell) (w : Wiring) → IsRule x → HasGoalFacts x g → ReadsWithin g n → IsFew x g n →
     w ≡ in_turn x.symbols (box_cells x n) → cells ≡ box_cells x n → wired_problem w x g cells ≡ box_problem x g n
 problem_is x g n cells w rule ok reach few is read =
     ap (λ v. wired_problem v x g cells) is ∙ (ap (wired_problem (in_turn x.symbols (box_cells x n)) x g) read ∙ box_is_problem x g n rule ok reach (radius_small x g n rule few))
 
-pub variables_few : (x : LocalRule) (g : GoalOf) (n : ℕ) (cells : List Cell) (w : Wiring) → IsRule x → HasGoalFacts x g → Reaches g n → IsFew x g n →
+pub variables_few : (x : LocalRule) (g : GoalOf) (n : ℕ) (cells : List Cell) (w : Wiring) → IsRule x → HasGoalFacts x g → ReadsWithin g n → IsFew x g n →
     w ≡ in_turn x.symbols (box_cells x n) → cells ≡ box_cells x n → (wired_problem w x g cells).variables ≤ 2 ^ 24
 variables_few x g n cells w rule ok reach few is read =
     let all = box_few x g n few in
     let same = ap (λ (k : ClauseList). k.variables) (problem_is x g n cells w rule ok reach few is read) in
     omega (arith, all, same)
 
-module _ {E : Type 0} (x : LocalRule) (g : GoalOf) (n : ℕ) (cells : List Cell) (w : Wiring) (rule : IsRule x) (ok : HasGoalFacts x g) (reach : Reaches g n) (few : IsFew x g n)
+module _ {E : Type 0} (x : LocalRule) (g : GoalOf) (n : ℕ) (cells : List Cell) (w : Wiring) (rule : IsRule x) (ok : HasGoalFacts x g) (reach : ReadsWithin g n) (few : IsFew x g n)
     (is : w ≡ in_turn x.symbols (box_cells x n)) (read : cells ≡ box_cells x n) (r : Result ClauseList E) (made : IfOk r (λ cnf. cnf ≡ wired_problem w x g cells)) where
   pub exactly : IfOk r (λ cnf. cnf ≡ box_problem x g n)
   exactly = if_ok r (λ cnf. cnf ≡ wired_problem w x g cells) (λ cnf. cnf ≡ box_problem x g n) (λ cnf h. h ∙ problem_is x g n cells w rule ok reach few is read) made

@@ -11,7 +11,7 @@ use Rattle.dd_circuit.specs.{declared.gates.Signal.Signal, Circuits.signal_of}
 use Rattle.dd_compile.specs.Wiring.{wire_of}
 use Rattle.dd_formula.specs.LocalRule.{LocalRule, IsRule, reads_at}
 use Rattle.dd_boxes.specs.{Goals.GoalOf, Goals.breaks, Goals.differ, Goals.always, Fillings.in_box, Fillings.is_box_cell}
-use Rattle.dd_boxes.specs.{Boxes.origin, Boxes.Reaches, Counts.question_clauses, Counts.most_clauses, Cells.box_cells}
+use Rattle.dd_boxes.specs.{Boxes.origin, Boxes.ReadsWithin, Counts.question_clauses, Counts.most_clauses, Cells.box_cells}
 use Rattle.dd_problem.specs.{pushing.GoalFacts.HasGoalFacts, Layouts.box_index, Layouts.box_layout, Clauses.input, Problems.box_problem}
 use Rattle.dd_problem.specs.pushing.{Numbered.in_turn, Pushed.wired_problem, Pushed.AreInputs, Pushed.is_goal_wired}
 use Rattle.dd_problem.specs.lemmas.BoxLayout.{box_within, box_is_layout, box_cell_there, box_cell_at}
@@ -110,14 +110,14 @@ box_goal x (breaks y) n rule ok small = λ a node. record { node = node; gives =
 box_goal x (differ s f g) n rule ok small = refl
 box_goal x always n rule ok small = tt
 
-pub box_is_problem : (x : LocalRule) (g : GoalOf) (n : ℕ) → IsRule x → HasGoalFacts x g → Reaches g n → n ≤ 1048576 →
+pub box_is_problem : (x : LocalRule) (g : GoalOf) (n : ℕ) → IsRule x → HasGoalFacts x g → ReadsWithin g n → n ≤ 1048576 →
     wired_problem (in_turn x.symbols (box_cells x n)) x g (box_cells x n) ≡ box_problem x g n
 box_is_problem x g n rule ok reach small =
     wired_is_problem (in_turn x.symbols (box_cells x n)) (box_layout x n) x (λ _ _. true) (λ _. true) g rule ok (box_is_layout x n) (goal_reads_box x g n ok reach)
     (λ k d is. record { node = box_nodes x n k d is; gives = box_gives x n rule small d.position; reads = all_pass (reads_at x d.node) })
     (box_goal x g n rule ok small)
 
-pub box_goal_wired : (x : LocalRule) (g : GoalOf) (n : ℕ) → IsRule x → HasGoalFacts x g → Reaches g n → n ≤ 1048576 →
+pub box_goal_wired : (x : LocalRule) (g : GoalOf) (n : ℕ) → IsRule x → HasGoalFacts x g → ReadsWithin g n → n ≤ 1048576 →
     is_goal_wired (in_turn x.symbols (box_cells x n)) (length (box_cells x n) * x.symbols) g ≡ true
 box_goal_wired x g n rule ok reach small =
     goal_is_wired (in_turn x.symbols (box_cells x n)) (box_layout x n) x (λ _. true) g ok (box_is_layout x n) (goal_reads_box x g n ok reach) (box_values x n rule g ok reach) (box_goal x g n rule ok small)

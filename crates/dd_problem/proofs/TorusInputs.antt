@@ -16,7 +16,7 @@ use Rattle.dd_compile.specs.Wiring.{signals_of, wire_of}
 use Rattle.dd_formula.specs.LocalRule.{LocalRule, IsRule, reads_at, is_of, is_near}
 use Rattle.dd_formula.specs.{Automata.CommonNumbers, Automata.counted, declared.automaton.Automaton.Automaton}
 use Rattle.dd_boxes.specs.Goals.{GoalOf, breaks, differ, always, AreOver}
-use Rattle.dd_boxes.specs.{Boxes.origin, Boxes.goal_reach, Boxes.Reaches, Fillings.in_box, Fillings.is_box_cell, Fillings.is_cell_within}
+use Rattle.dd_boxes.specs.{Boxes.origin, Boxes.goal_reach, Boxes.ReadsWithin, Fillings.in_box, Fillings.is_box_cell, Fillings.is_cell_within}
 use Rattle.dd_boxes.specs.{lemmas.RuleLaws.list_all_weaker, lemmas.FromBox.box_alike, lemmas.FromBox.box_over, TorusPeriods.AreTorusPeriods}
 use Rattle.dd_problem.specs.{pushing.GoalFacts.HasGoalFacts, Layouts.torus, Layouts.torus_cells, Clauses.input, Problems.torus_problem}
 use Rattle.dd_problem.specs.pushing.Near.{near_cells, number_at, numbered_by, numbered_tile, torus_layout}
@@ -125,7 +125,7 @@ module _ (x : LocalRule) (periods : Periods) (rule : IsRule x) (ok : AreTorusPer
 
   torus_goal : GoalMatches (numbered_by x.symbols numbers near) (torus_layout x g periods) x.symbols (is_box_cell x n) g
   torus_goal = goal_of g good (facts_reach x g rule good) where
-    goal_of : (h : GoalOf) → HasGoalFacts x h → Reaches h n → GoalMatches (numbered_by x.symbols numbers near) (torus_layout x g periods) x.symbols (is_box_cell x n) h
+    goal_of : (h : GoalOf) → HasGoalFacts x h → ReadsWithin h n → GoalMatches (numbered_by x.symbols numbers near) (torus_layout x g periods) x.symbols (is_box_cell x n) h
     goal_of (breaks y) fits reach = λ a node. record {
       node = node;
       gives = goal_gives;
@@ -151,7 +151,7 @@ module _ (x : LocalRule) (periods : Periods) (rule : IsRule x) (ok : AreTorusPer
 
   pub torus_values : GoalWired (torus_layout x g periods) x.symbols g
   torus_values = told g good (facts_reach x g rule good) where
-    told : (h : GoalOf) → HasGoalFacts x h → Reaches h n → GoalWired (torus_layout x g periods) x.symbols h
+    told : (h : GoalOf) → HasGoalFacts x h → ReadsWithin h n → GoalWired (torus_layout x g periods) x.symbols h
     told (breaks y) fits reach = tt
     told (differ s e h) fits reach = record {
       symbols = fits.over.symbols;

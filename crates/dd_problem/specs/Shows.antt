@@ -29,8 +29,8 @@ pub record DecidesBox (clauses : List (List Literal)) (x : LocalRule) (g : GoalO
   pub suffices : AreRefuted clauses → Suffices x g n
   pub refuted : Suffices x g n → AreRefuted clauses
 
--- The same as `Shows`, for the periodic configurations that have these periods, with their shear, give each cell a symbol that the cell's node
--- allows, live in the premise's subshift (obey the premise at every cell), and have the goal at the origin.
+-- The same as `Shows`, for the periodic configurations that meet four conditions: they have these periods and their shear; they give each cell a
+-- symbol that the cell's node allows; they live in the premise's subshift (obey the premise at every cell); and they have the goal at the origin.
 pub record ShowsTorus (clauses : List (List Literal)) (x : LocalRule) (g : GoalOf) (periods : Periods) : Type 0 where
   pub each : (set : ℕ → Bool) → Satisfies set clauses → (t : Tile) × HasPeriods periods t × IsWitness x g t × AreRead set x.symbols t.symbols
   pub every : (t : Tile) → HasPeriods periods t → IsWitness x g t → (set : ℕ → Bool) × Satisfies set clauses × AreRead set x.symbols t.symbols

@@ -2,7 +2,7 @@
 ghost use Rattle.std.specs.Prelude.{◌≡◌, ◌≤◌, IfOk};
 ghost use Rattle.dd_lattice.specs.Boxes.{centred, volume};
 ghost use Rattle.dd_boxes.specs.Goals.{IsGoalFor};
-ghost use Rattle.dd_boxes.specs.Boxes.{Reaches};
+ghost use Rattle.dd_boxes.specs.Boxes.{ReadsWithin};
 ghost use Rattle.dd_boxes.specs.Counts.{question_clauses, most_clauses};
 ghost use Rattle.dd_boxes.specs.Views.{goal_of};
 ghost use Rattle.dd_problem.specs.Problems.{box_problem};
@@ -32,7 +32,7 @@ pub fn box_clauses(
     radius: u32,
 ) -> Result<Cnf, AllocError>
     requires goal { IsGoalFor premise.now (goal_of premise.now goal.now) }
-    requires reaches { Reaches (goal_of premise.now goal.now) radius }
+    requires reaches { ReadsWithin (goal_of premise.now goal.now) radius }
     requires few { question_clauses premise.now (goal_of premise.now goal.now) (volume (centred premise.now.dimension radius)) ≤ most_clauses }
     ensures exact { IfOk result (λ cnf. cnf ≡ box_problem premise.now (goal_of premise.now goal.now) radius) }
     ensures shows { IfOk result (λ cnf. Shows cnf.clauses premise.now (goal_of premise.now goal.now) radius) }

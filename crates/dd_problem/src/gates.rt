@@ -80,8 +80,8 @@ fn templates_of(alloc: Global, rule: &Rule) -> Result<Vec<Template>, AllocError>
     Ok(templates)
 }
 
-/// Adds the gates and clauses that say that the rule is true at each of the cells where all that the rule reads has inputs.
-/// The rule is compiled once for each node. If memory runs out, some gates and clauses may have been added.
+/// Adds the gates and clauses that say that the rule is true at each of the cells where every cell that the rule reads has
+/// inputs. The rule is compiled once for each node. If memory runs out, some gates and clauses may have been added.
 pub(crate) fn push_places(
     alloc: Global,
     encoder: &mut Encoder,

@@ -18,7 +18,7 @@ use dd_lattice::Cell;
 use std::alloc::{AllocError, Global};
 
 /// The clauses that say three things: each of the cells has one symbol, which its node allows; the premise is true at each of
-/// the cells where all that the premise reads has inputs; and the goal holds at the origin.
+/// the cells where every cell that the premise reads has inputs; and the goal holds at the origin.
 pub(crate) fn problem(
     alloc: Global,
     premise: &Rule,

@@ -86,7 +86,7 @@ fn push_shifted(found: &mut Vec<Cell>, by: &Position, cells: &[Cell]) -> Result<
     Ok(())
 }
 
-/// The cells in cell order, each once. Many may occur more than once, so they are sorted in place and repeats are dropped.
+/// The cells in cell order, each once. The list is sorted in place, and then repeats are dropped.
 fn once_each(cells: Vec<Cell>) -> Vec<Cell>
     ensures { result.items ≡ in_order cells.items }
 {
@@ -184,9 +184,9 @@ fn torus_inputs(
     inputs_by_number(alloc, &near, &numbers, symbols)
 }
 
-/// The clauses that ask for a configuration of these periods and this shear that gives each cell a symbol that the cell's node
-/// allows, lives in the premise's subshift, and has the goal at the origin. The periods along x, y and z must be at least 1;
-/// those of axes past the dimension must be 1. The shear must be less than the first period, and 0 in one dimension. The
+/// The clauses that ask for a configuration that has these periods and this shear, gives each cell a symbol that the cell's
+/// node allows, lives in the premise's subshift, and has the goal at the origin. The periods along x, y and z must be at least
+/// 1; those of axes past the dimension must be 1. The shear must be less than the first period, and 0 in one dimension. The
 /// fundamental box must have at most 65,536 cells. A bound on the number of clauses, `question_clauses` in the specs of
 /// `dd_boxes`, must be at most 2,000,000. The cells of the fundamental box are numbered from 0 in cell order. If the alphabet
 /// has `symbols` symbols, the variable `1 + k * symbols + s` says that the cell with the number `k` has the symbol `s`. The

@@ -13,11 +13,11 @@ use dd_formula::Rule;
 use dd_pattern::Periodic;
 use std::alloc::{AllocError, Global};
 
-/// Whether the variable `input + 1` has a value, and the value is true. The list `values` starts with the value of variable 1.
-fn is_true(values: &[bool], input: usize) -> bool
-    ensures { result ≡ slice_index_or values.now input false }
+/// Whether the variable `index + 1` has a value, and the value is true. The list `values` starts with the value of variable 1.
+fn is_true(values: &[bool], index: usize) -> bool
+    ensures { result ≡ slice_index_or values.now index false }
 {
-    input < values.len() && values[input]
+    index < values.len() && values[index]
 }
 
 /// The symbol of the cell with this number: the one whose input is true.
@@ -26,8 +26,8 @@ fn symbol_read(values: &[bool], number: u32, symbols: u32) -> u32
     ensures { IsSymbolRead (true_variables values.now) symbols number result }
 {
     for symbol in 0..symbols {
-        let input = u64::from(number) * u64::from(symbols) + u64::from(symbol);
-        if is_true(values, input as usize) {
+        let index = u64::from(number) * u64::from(symbols) + u64::from(symbol);
+        if is_true(values, index as usize) {
             return symbol;
         }
     }

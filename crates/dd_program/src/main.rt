@@ -1,6 +1,6 @@
 //! The program: its arguments, standard input and output, engines and exit code. Box questions (see `dd_session`) are answered
-//! by searches for assignments that satisfy lists of clauses. Before such a search, engines are asked in turn, until one
-//! proposes a right result.
+//! by searches for assignments that satisfy lists of clauses. Engines are asked first, in turn, until one proposes a right
+//! result. The search is made only if none does.
 #![tactic(auto)]
 
 use dd_engines::{Engine, Propagator, Roster, Walker};
@@ -11,7 +11,7 @@ use std::process::ExitCode;
 use std::{env, io};
 
 /// The exit code if the arguments can't be read for a reason other than lack of memory. The codes 0 to 7 are those of `Status`.
-const NO_WORDS: u8 = 8;
+const UNREADABLE_WORDS: u8 = 8;
 
 /// The most flips that the engine `Walker` makes each time it is asked. A flip changes the value of one variable.
 const FLIPS: u32 = 10_000;
@@ -64,7 +64,7 @@ fn main(rt: HostRuntime) -> ExitCode {
         Err(WordsFault::Memory) => return ExitCode::from(Status::Memory as u8),
         Err(WordsFault::Other) => {
             let _ = eprintln!(rt; "cannot read the command-line arguments");
-            return ExitCode::from(NO_WORDS);
+            return ExitCode::from(UNREADABLE_WORDS);
         }
     };
     let status = match run(&rt, &words) {

@@ -6,7 +6,7 @@ use Rattle.dd_commands.specs.{Table.row, Commands.IsRequest}
 use Rattle.dd_known.specs.{Known.named, Sound.IsSound}
 use Rattle.dd_faults.specs.Commands.{is_far, dimension_unless, word_faults, radius_faults, list_faults, has_symbols, request_faults}
 use Rattle.dd_faults.specs.lemmas.Nothing.{both_nil, fits, parts}
-use Rattle.dd_query.specs.{Parts.number_of_word, Parts.word_at, Queries.query_of, Queries.IsQueryWithin}
+use Rattle.dd_query.specs.{Parts.number_of_word, Parts.number_named_at, Queries.query_of, Queries.IsQueryWithin}
 use Rattle.dd_query.proofs.{ShapeLaws.value_small, ShapeLaws.strip_is, ShapeLaws.all_close, ShapeLaws.vectors_are, TorusLaws.torus_is}
 
 -- the number at each index is that of a known rule, automaton or configuration; the role at this index says which of the three
@@ -25,7 +25,7 @@ module _ (x : Context) (r : Request) where
   asks k = record r { kind = k }
 
   module _ (k : QueryKind) (is : IsRequest (asks k)) (none : request_faults x (asks k) ≡ []) where
-    words : AreThere x (row k).names (word_at x (asks k))
+    words : AreThere x (row k).names (number_named_at x (asks k))
     words = words_there x (row k).names r.words is.words (both_nil _ _ none).0
 
     radii : flat_map (radius_faults x) r.numbers ≡ []

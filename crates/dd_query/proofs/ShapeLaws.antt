@@ -10,7 +10,7 @@ use Rattle.dd_written.specs.Values.{written_value}
 use Rattle.dd_values.specs.Bounds.{widest_radius}
 use Rattle.dd_boxes.specs.Discharges.{AreVectors}
 use Rattle.dd_known.specs.{Known.dimension_of, Limits.longest_strip}
-use Rattle.dd_faults.specs.Commands.{is_far, radius_faults, is_no_strip, strip_faults, vector_faults, list_faults}
+use Rattle.dd_faults.specs.Commands.{is_far, radius_faults, is_bad_period, strip_faults, vector_faults, list_faults}
 use Rattle.dd_faults.specs.lemmas.Nothing.{parts, both_nil, within, all_where}
 use Rattle.dd_faults.specs.lemmas.Periods.{entry_at, no_entry}
 use Rattle.dd_query.proofs.{VectorLaws.IsGiven, VectorLaws.vectors_differ, PlaceLaws.vectors_of}
@@ -24,7 +24,7 @@ value_small x (n ∷ ns) (suc i) none = value_small x ns i (both_nil _ _ none).1
 
 -- ---- strips
 
-period_within : (bytes : List ℕ) (es : List Entry) (j : ℕ) → list_any (is_no_strip bytes) es ≡ false → (1 ≤ entry_at bytes es j) × (entry_at bytes es j ≤ longest_strip)
+period_within : (bytes : List ℕ) (es : List Entry) (j : ℕ) → list_any (is_bad_period bytes) es ≡ false → (1 ≤ entry_at bytes es j) × (entry_at bytes es j ≤ longest_strip)
 period_within bytes [] j h = (omega arith, omega arith)
 period_within bytes (e ∷ es) zero h = grind (arith, parts)
 period_within bytes (e ∷ es) (suc j) h = period_within bytes es j (or_parts _ _ h).1
@@ -35,7 +35,7 @@ pub strip_is : (x : Context) (vs : List Vector) → flat_map (strip_faults x) vs
 strip_is x [] none = search rules
 strip_is x (v ∷ vs) none =
     let less : length v.entries + 1 ≡ dimension_of x.known = grind (arith, parts) in
-    let short : list_any (is_no_strip x.text) v.entries ≡ false = grind (arith, parts) in
+    let short : list_any (is_bad_period x.text) v.entries ≡ false = grind (arith, parts) in
     record {
       second = period_within x.text v.entries 0 short;
       third = period_within x.text v.entries 1 short;

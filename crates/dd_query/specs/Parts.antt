@@ -12,8 +12,8 @@ abbrev pub number_of_word : Context → Role × Word → ℕ
 number_of_word x w = number_in x.text (named x.known w.0) (Name.Word w.1)
 
 -- the number that `number_of_word` gives for the word at this index and its role in the table of queries; 0 if there is no such word or role
-abbrev pub word_at : Context → Request → ℕ → ℕ
-word_at x r place = slice_index (map (number_of_word x) (zip (row r.kind).names r.words)) place
+abbrev pub number_named_at : Context → Request → ℕ → ℕ
+number_named_at x r place = slice_index (map (number_of_word x) (zip (row r.kind).names r.words)) place
 
 -- the value of the number at this index; 0 if there is none
 abbrev pub value_at : Context → Request → ℕ → ℕ

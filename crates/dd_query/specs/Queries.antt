@@ -4,23 +4,23 @@ use Rattle.dd_values.specs.Bounds.{widest_radius}
 use Rattle.dd_pattern.specs.Periods.{periods_of}
 use Rattle.dd_boxes.specs.{Discharges.AreVectors, TorusPeriods.AreTorusPeriods}
 use Rattle.dd_query.specs.{Tree.QueryKind, Tree.Request, Tree.Known, Tree.Context, Vectors.place_of}
-use Rattle.dd_query.specs.Parts.{word_at, value_at, strip_periods, AreStripPeriods, torus_periods}
+use Rattle.dd_query.specs.Parts.{number_named_at, value_at, strip_periods, AreStripPeriods, torus_periods}
 use Rattle.dd_query.specs.declared.queries.Query.{Query}
 
 -- the query of this kind, with the words, numbers and vectors of a syntax tree
 abbrev pub query_asked : QueryKind → Context → Request → Query
-query_asked QueryKind.Member x r = Query.Member (word_at x r 0) (word_at x r 1)
-query_asked QueryKind.Contains x r = Query.Contains (word_at x r 0) (word_at x r 1)
-query_asked QueryKind.Equal x r = Query.Equal (word_at x r 0) (word_at x r 1)
-query_asked QueryKind.Empty x r = Query.Empty (word_at x r 0)
-query_asked QueryKind.Agree x r = Query.Agree (word_at x r 0) (word_at x r 1) (word_at x r 2)
-query_asked QueryKind.Maps x r = Query.Maps (word_at x r 0) (word_at x r 1) (word_at x r 2)
-query_asked QueryKind.Conjugate x r = Query.Conjugate (word_at x r 0) (word_at x r 1) (word_at x r 2) (word_at x r 3)
-query_asked QueryKind.Forbidden x r = Query.Forbidden (word_at x r 0)
-query_asked QueryKind.Minimal x r = Query.Minimal (word_at x r 0)
-query_asked QueryKind.Density x r = Query.Density (word_at x r 0) (strip_periods x.text r.vectors)
-query_asked QueryKind.Least x r = Query.Least (word_at x r 0) (torus_periods x.text r.vectors)
-query_asked QueryKind.Discharge x r = Query.Discharge (word_at x r 0) (value_at x r 0) (value_at x r 1) (map (place_of x.text) r.vectors)
+query_asked QueryKind.Member x r = Query.Member (number_named_at x r 0) (number_named_at x r 1)
+query_asked QueryKind.Contains x r = Query.Contains (number_named_at x r 0) (number_named_at x r 1)
+query_asked QueryKind.Equal x r = Query.Equal (number_named_at x r 0) (number_named_at x r 1)
+query_asked QueryKind.Empty x r = Query.Empty (number_named_at x r 0)
+query_asked QueryKind.Agree x r = Query.Agree (number_named_at x r 0) (number_named_at x r 1) (number_named_at x r 2)
+query_asked QueryKind.Maps x r = Query.Maps (number_named_at x r 0) (number_named_at x r 1) (number_named_at x r 2)
+query_asked QueryKind.Conjugate x r = Query.Conjugate (number_named_at x r 0) (number_named_at x r 1) (number_named_at x r 2) (number_named_at x r 3)
+query_asked QueryKind.Forbidden x r = Query.Forbidden (number_named_at x r 0)
+query_asked QueryKind.Minimal x r = Query.Minimal (number_named_at x r 0)
+query_asked QueryKind.Density x r = Query.Density (number_named_at x r 0) (strip_periods x.text r.vectors)
+query_asked QueryKind.Least x r = Query.Least (number_named_at x r 0) (torus_periods x.text r.vectors)
+query_asked QueryKind.Discharge x r = Query.Discharge (number_named_at x r 0) (value_at x r 0) (value_at x r 1) (map (place_of x.text) r.vectors)
 
 -- the query with this syntax tree
 abbrev pub query_of : Context → Request → Query

@@ -5,7 +5,7 @@ ghost use Rattle.dd_pattern.specs.Periods.{periods_of};
 ghost use Rattle.dd_boxes.specs.TorusPeriods.{AreTorusPeriods};
 ghost use Rattle.dd_faults.specs.Commands.{is_far};
 ghost use Rattle.dd_query.specs.Vectors.{place_of};
-ghost use Rattle.dd_query.specs.Parts.{word_at, value_at, strip_periods, AreStripPeriods, torus_periods};
+ghost use Rattle.dd_query.specs.Parts.{number_named_at, value_at, strip_periods, AreStripPeriods, torus_periods};
 
 use crate::vectors::position_of;
 use dd_commands::{Request, Vector};
@@ -19,8 +19,8 @@ use std::alloc::{AllocError, Global};
 /// The number of the rule, automaton or configuration that the word at the index `place` names. The word's role says which of
 /// the three it names (see `Role` of `dd_commands`). The number is 0 if there is no such word, if this kind of query gives it
 /// no role, or if nothing of its role has this name.
-pub(crate) fn word_at(context: &Context, request: &Request, place: usize) -> u32
-    ensures { result ≡ word_at context.now request.now place }
+pub(crate) fn number_named_at(context: &Context, request: &Request, place: usize) -> u32
+    ensures { result ≡ number_named_at context.now request.now place }
 {
     let roles = request.kind.row().names;
     let (Some(role), Some(word)) = (roles.get(place), request.words.get(place)) else {

@@ -8,7 +8,7 @@ ghost use Rattle.dd_known.specs.Sound.{IsSound};
 ghost use Rattle.dd_faults.specs.Commands.{is_far, request_faults};
 ghost use Rattle.dd_query.specs.Queries.{query_asked, query_of, IsQueryWithin};
 
-use crate::parts::{positions, strip_of, torus_of, value_at, word_at};
+use crate::parts::{number_named_at, positions, strip_of, torus_of, value_at};
 use dd_commands::{QueryKind, Request};
 use dd_known::Context;
 use dd_lattice::Position;
@@ -78,8 +78,8 @@ pub enum Query {
         rule: u32,
         periods: [u32; 3],
     },
-    /// The best lower bound on the rule's density that discharging along these vectors gives, with this radius and this margin
-    /// (see `dd_rows`).
+    /// The best lower bound that discharging along these vectors, with this radius and this margin, gives for the density of
+    /// the configurations that obey the rule (see `dd_rows`).
     Discharge {
         rule: u32,
         radius: u32,
@@ -92,9 +92,9 @@ fn agree(context: &Context, request: &Request) -> Query
     ensures { result ≡ query_asked kinds.Agree context.now request.now }
 {
     Query::Agree {
-        left: word_at(context, request, 0),
-        right: word_at(context, request, 1),
-        rule: word_at(context, request, 2),
+        left: number_named_at(context, request, 0),
+        right: number_named_at(context, request, 1),
+        rule: number_named_at(context, request, 2),
     }
 }
 
@@ -102,9 +102,9 @@ fn maps(context: &Context, request: &Request) -> Query
     ensures { result ≡ query_asked kinds.Maps context.now request.now }
 {
     Query::Maps {
-        map: word_at(context, request, 0),
-        from: word_at(context, request, 1),
-        to: word_at(context, request, 2),
+        map: number_named_at(context, request, 0),
+        from: number_named_at(context, request, 1),
+        to: number_named_at(context, request, 2),
     }
 }
 
@@ -112,14 +112,14 @@ fn conjugate(context: &Context, request: &Request) -> Query
     ensures { result ≡ query_asked kinds.Conjugate context.now request.now }
 {
     Query::Conjugate {
-        there: word_at(context, request, 0),
-        back: word_at(context, request, 1),
-        from: word_at(context, request, 2),
-        to: word_at(context, request, 3),
+        there: number_named_at(context, request, 0),
+        back: number_named_at(context, request, 1),
+        from: number_named_at(context, request, 2),
+        to: number_named_at(context, request, 3),
     }
 }
 
-/// The query with this syntax tree. The script must have at least one node, and the query must be as `IsQueryWithin` says. No
+/// The query with this syntax tree. The script must have at least one node, and the query must satisfy `IsQueryWithin`. No
 /// entry of the vectors of a discharging query may be over 4 in absolute value.
 fn asked(alloc: Global, context: &Context, request: &Request) -> Result<Query, AllocError>
     requires within { IsQueryWithin context.now.known (query_of context.now request.now) }
@@ -128,8 +128,8 @@ fn asked(alloc: Global, context: &Context, request: &Request) -> Result<Query, A
     ensures exact { IfOk result (λ q. q ≡ query_of context.now request.now) }
     ensures within { OnOk result (IsQueryWithin context.now.known (query_of context.now request.now)) }
 {
-    let first = word_at(context, request, 0);
-    let second = word_at(context, request, 1);
+    let first = number_named_at(context, request, 0);
+    let second = number_named_at(context, request, 1);
     Ok(match request.kind {
         QueryKind::Member => Query::Member {
             configuration: first,

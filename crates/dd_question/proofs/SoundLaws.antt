@@ -6,22 +6,22 @@ use Rattle.dd_values.specs.declared.limits.Limits.{Limits}
 use Rattle.dd_formula.specs.{LocalRule.LocalRule, LocalRule.IsRule, Counts.largest_clauses}
 use Rattle.dd_counts.specs.Rules.{pattern_count, states, window_count, most_patterns, most_states, most_windows}
 use Rattle.dd_strip.specs.Strips.{IsFew, strip_for}
-use Rattle.dd_boxes.specs.Goals.{GoalOf, breaks, AreAlike, IsGoalFor, KeepsRule}
+use Rattle.dd_boxes.specs.Goals.{GoalOf, breaks, AreAlike, IsGoalFor, HasValidRule}
 use Rattle.dd_boxes.specs.{Counts.goal_clauses, Counts.most_clauses, lemmas.ReachLaws.least_is_goal_reach}
 use Rattle.dd_question.specs.declared.excess.Excess.{Excess}
-use Rattle.dd_question.specs.Questions.{Asked, membership, box, equality, listing, smallest, conjugacy, density, least, discharge, IsFormed, passed, excess_of, IsSoundAsked}
+use Rattle.dd_question.specs.Questions.{Asked, membership, box, equality, listing, smallest, conjugacy, density, least, discharge, IsFormed, exceeded, excess_of, IsSoundAsked}
 use Rattle.dd_question.specs.Boxes.{clauses_of, is_long, IsAskable, IsFormedBox, IsSoundBox}
 use Rattle.dd_question.specs.Conjugacies.{ConjugacyOf, EachPart, is_some_long}
 use Rattle.dd_question.specs.{Lists.has_many_patterns, Lists.HasFewPatterns, Densities.has_many_states, Densities.strip_volume}
-use Rattle.dd_question.specs.Tori.{weight_clauses, is_heavy}
+use Rattle.dd_question.specs.Tori.{weight_clauses, has_many_clauses}
 use Rattle.dd_question.proofs.LimitLaws.{some_at}
 use Rattle.dd_question.specs.declared.excess.Excess.TheVariants as excess
 
-within : (b : Bool) (e : Excess) → passed b e ≡ None → b ≡ false
+within : (b : Bool) (e : Excess) → exceeded b e ≡ None → b ≡ false
 within true e is = absurd (cc is)
 within false e is = refl
 
-askable : (l : Limits) (x : LocalRule) (g : GoalOf) → IsRule x → IsGoalFor x g → KeepsRule g → is_long l x g ≡ false → IsAskable l x g
+askable : (l : Limits) (x : LocalRule) (g : GoalOf) → IsRule x → IsGoalFor x g → HasValidRule g → is_long l x g ≡ false → IsAskable l x g
 askable l x g ok goal kept few = record {
   goal = goal;
   rule = kept;
@@ -84,7 +84,7 @@ sound l (least x along ws) formed none = (
   record {
     torus = formed.1;
     weights = formed.2;
-    small = ltb-false most_clauses (weight_clauses x along ws) (within (is_heavy x along ws) excess.Clauses none);
+    small = ltb-false most_clauses (weight_clauses x along ws) (within (has_many_clauses x along ws) excess.Clauses none);
   },
 )
 sound l (discharge x radius margin vs ws) formed none = formed

@@ -1,5 +1,5 @@
--- Questions for the least density of a strip: how many states and windows the rule's transfer graph has over the strip. A slice consists of the
--- strip's cells with one value of x. The vertices of the graph are states. A state is a filling of a fixed number of successive slices, over the
+-- Questions that ask for the least density on a strip: how many states and windows the rule's transfer graph has over the strip. A slice consists of
+-- the strip's cells with one value of x. The vertices of the graph are states. A state is a filling of a fixed number of successive slices, over the
 -- whole alphabet. This number depends on how far the rule reads along x. A window is like a state, but has one slice more. Each edge of the graph is
 -- a window.
 use Rattle.std.specs.Prelude.{ℕ, ◌*◌, ◌||◌, List, Bool, nat_lt, slice_index}
@@ -15,8 +15,8 @@ has_many_states x volume = nat_lt most_states (states x volume) || nat_lt most_w
 abbrev pub strip_volume : List ℕ → ℕ
 strip_volume strip = slice_index strip 0 * slice_index strip 1
 
--- the question is sound: these may be the periods of a strip, the rule's transfer graph over this strip has few enough states and windows, and each
--- symbol has a weight of at most 1,000
+-- these may be the periods of a strip, the rule's transfer graph over this strip has few enough states and windows, and each symbol has a weight of
+-- at most 1,000
 pub record IsNarrow (x : LocalRule) (periods ws : List ℕ) : Type 0 where
   pub strip : IsStrip x periods
   pub weights : HasWeights x ws

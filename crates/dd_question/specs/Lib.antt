@@ -7,11 +7,11 @@ pub mod Checked
 pub mod Boxes
 -- the four box questions of a conjugacy
 pub mod Conjugacies
--- questions for lists of forbidden patterns or of minimal ones
+-- questions that ask for lists of forbidden patterns or of minimal ones
 pub mod Lists
--- questions for the least density of a strip
+-- questions that ask for the least density on a strip
 pub mod Densities
--- questions for the least weight on a torus
+-- questions that ask for the least weight on a torus
 pub mod Tori
 -- discharges
 pub mod Discharges

@@ -1,5 +1,5 @@
--- Questions for lists of forbidden patterns or of minimal ones: whether the cells that a rule reads at a node have few enough fillings over the whole
--- alphabet.
+-- Questions that ask for lists of forbidden patterns or of minimal ones: whether the cells that a rule reads at a node have few enough fillings over
+-- the whole alphabet.
 use Rattle.std.specs.{Prelude.ℕ, Prelude.◌<◌, Prelude.◌≤◌, Prelude.Bool, Prelude.nat_lt, List.list_any, List.range_with_len}
 use Rattle.dd_formula.specs.LocalRule.{LocalRule}
 use Rattle.dd_counts.specs.Rules.{pattern_count, most_patterns}

@@ -10,7 +10,7 @@ use Rattle.dd_question.specs.declared.{excess.Excess.Excess, fault.QuestionFault
 use Rattle.dd_question.specs.{declared.question.Question.Question, Boxes.is_long, Boxes.IsFormedBox, Boxes.IsAskable, Boxes.IsSoundBox}
 use Rattle.dd_question.specs.Conjugacies.{ConjugacyOf, is_some_long, IsPart, EachPart, conjugacy_of}
 use Rattle.dd_question.specs.Lists.{has_many_patterns, HasFewPatterns}
-use Rattle.dd_question.specs.{Densities.has_many_states, Densities.strip_volume, Densities.IsNarrow, Tori.is_heavy, Tori.IsWeighable}
+use Rattle.dd_question.specs.{Densities.has_many_states, Densities.strip_volume, Densities.IsNarrow, Tori.has_many_clauses, Tori.IsWeighable}
 use Rattle.dd_question.specs.Discharges.{IsDischargeable, IsDischargeFault}
 use Rattle.dd_question.specs.declared.excess.Excess.TheVariants as excess
 use Rattle.dd_question.specs.declared.fault.QuestionFault.TheVariants as fault
@@ -42,12 +42,12 @@ pub data Asked : Type 0 where
   -- fundamental box, the box that repeats.
   least : LocalRule → List ℕ → List ℕ → Asked
   -- What is the best lower bound that a discharge shows for the density (the weight per position) of every configuration that obeys the rule? Each
-  -- position first holds the weight of its symbols. Then, along each of the vectors, it gives an amount to the position at the vector's end. The first
-  -- number of the question is the radius: the symbols of the box of this radius around a position determine what it gives. A bound is a number such
-  -- that a position holds at least this number in the end, in each admissible filling of a finite region around it. A bound may not exceed the number
-  -- of nodes times the greatest weight. The region consists of the boxes of this radius around the position and around the positions that give to it.
-  -- Each of these boxes is enlarged by the second number, the margin, in every direction. A filling of the region is admissible if its symbols are
-  -- allowed and the rule is true at each cell of the region for which all that the rule reads lies in the region.
+  -- position first holds the weight of its symbols. Then, along each of the vectors, it gives an amount to the position at the vector's end. The
+  -- first number of the question is the radius: the symbols of the box of this radius around a position determine what it gives. A bound is a number
+  -- such that a position holds at least this number in the end, in each admissible filling of a finite region around it. A bound is also at most the
+  -- number of nodes times the greatest weight. The region consists of the boxes of this radius around the position and around the positions that give
+  -- to it. Each of these boxes is enlarged by the second number, the margin, in every direction. A filling of the region is admissible if its symbols
+  -- are allowed and the rule is true at each cell of the region at which it reads only cells of the region.
   discharge : LocalRule → ℕ → ℕ → List Place → List ℕ → Asked
 
 -- the question that a value of the code stands for
@@ -105,19 +105,19 @@ pub data IsPartFault : Asked → QuestionFault → Type 0 where
   memory_fault : {a : Asked} → IsPartFault a fault.Memory
 
 -- the limit e if b is true, otherwise none; b says whether the limit e is exceeded
-abbrev pub passed : Bool → Excess → Option Excess
-passed b e = if b then Some e else None
+abbrev pub exceeded : Bool → Excess → Option Excess
+exceeded b e = if b then Some e else None
 
 -- the limit on its work that the question exceeds, if any
 abbrev pub excess_of : Limits → Asked → Option Excess
 excess_of l (membership x t) = None
-excess_of l (box x g) = passed (is_long l x g) excess.Clauses
-excess_of l (equality x y) = passed (is_long l x (breaks y) || is_long l y (breaks x)) excess.Clauses
-excess_of l (listing x) = passed (has_many_patterns x) excess.Patterns
-excess_of l (smallest x) = passed (has_many_patterns x) excess.Patterns
-excess_of l (conjugacy c) = passed (is_some_long l c) excess.Clauses
-excess_of l (density x strip ws) = passed (has_many_states x (strip_volume strip)) excess.States
-excess_of l (least x along ws) = passed (is_heavy x along ws) excess.Clauses
+excess_of l (box x g) = exceeded (is_long l x g) excess.Clauses
+excess_of l (equality x y) = exceeded (is_long l x (breaks y) || is_long l y (breaks x)) excess.Clauses
+excess_of l (listing x) = exceeded (has_many_patterns x) excess.Patterns
+excess_of l (smallest x) = exceeded (has_many_patterns x) excess.Patterns
+excess_of l (conjugacy c) = exceeded (is_some_long l c) excess.Clauses
+excess_of l (density x strip ws) = exceeded (has_many_states x (strip_volume strip)) excess.States
+excess_of l (least x along ws) = exceeded (has_many_clauses x along ws) excess.Clauses
 excess_of l (discharge x radius margin vs ws) = None
 
 -- the question is sound: its parts fit together, and it exceeds no limit

@@ -1,4 +1,5 @@
--- Questions for a least weight on a torus: how many clauses they take at most, and when they are sound. `along` lists the periods along the axes.
+-- Questions that ask for a least weight on a torus: how many clauses they take at most, and when they are sound. `along` lists the periods along the
+-- axes.
 use Rattle.std.specs.Prelude.{ℕ, suc, ◌+◌, ◌*◌, ◌≤◌, Bool, List, length, nat_lt}
 use Rattle.dd_pattern.specs.Periods.{periods_of, periods_volume}
 use Rattle.dd_expansion.specs.Limits.{greatest}
@@ -23,11 +24,10 @@ weight_clauses x along ws =
     question_clauses x always (positions_in along) + cells_in x along * (cells_in x along * greatest ws * suc (4 * length ws)) + 1
 
 -- this bound is greater than `most_clauses`
-abbrev pub is_heavy : LocalRule → List ℕ → List ℕ → Bool
-is_heavy x along ws = nat_lt most_clauses (weight_clauses x along ws)
+abbrev pub has_many_clauses : LocalRule → List ℕ → List ℕ → Bool
+has_many_clauses x along ws = nat_lt most_clauses (weight_clauses x along ws)
 
--- the question is sound: these may be the periods of a torus, each symbol has a weight of at most 1,000, and the upper bound for the number of
--- clauses is at most 2,000,000
+-- these may be the periods of a torus, each symbol has a weight of at most 1,000, and the upper bound for the number of clauses is at most 2,000,000
 pub record IsWeighable (x : LocalRule) (along ws : List ℕ) : Type 0 where
   pub torus : AreTorusPeriods x.dimension x.nodes (periods_of along 0)
   pub weights : HasWeights x ws

@@ -16,8 +16,8 @@ pub enum QuestionFault {
     /// alphabet.
     #[error("the configuration doesn't fit the rule")]
     Configuration,
-    /// Some cell of the configuration has a symbol that the cell's node doesn't allow.
-    #[error("the configuration has a symbol that its node doesn't allow")]
+    /// A cell of the configuration has a symbol that the cell's node doesn't allow.
+    #[error("a cell of the configuration has a symbol that its node doesn't allow")]
     Symbols,
     /// The goal's rule differs from the premise in its dimension, its number of nodes or its alphabet. Or one of the goal's
     /// automata isn't well formed over the dimension, the nodes and the alphabet of the premise.
@@ -29,12 +29,12 @@ pub enum QuestionFault {
     /// A period of the strip is not in the range 1 to 64, or it is not 1 along an axis past the rule's dimension.
     #[error("a period of the strip is out of range")]
     Strip,
-    /// There isn't one weight of at most 1,000 for each symbol.
-    #[error("there isn't one weight of at most 1000 for each symbol")]
+    /// The number of weights isn't the number of symbols, or a weight is over 1,000.
+    #[error("the number of weights isn't the number of symbols, or a weight is over 1000")]
     Weights,
     /// A period of the torus is 0, or it is not 1 along an axis past the rule's dimension. Or the fundamental box has more than
     /// 65,536 cells.
-    #[error("a period of the torus is out of range, or its box has more than 65536 cells")]
+    #[error("a period of the torus is out of range, or the fundamental box has more than 65536 cells")]
     Periods,
     /// The radius of a discharge is over 3.
     #[error("the radius is over 3")]
@@ -44,7 +44,7 @@ pub enum QuestionFault {
     Margin,
     /// A discharge has no vectors or more than 16, or two of them are equal. Or one of them is over 4 long along an axis, or is
     /// not 0 along an axis past the rule's dimension.
-    #[error("there aren't 1 to 16 different vectors of the rule's dimension, at most 4 long along each axis")]
+    #[error("there are no vectors or more than 16, two of them are equal, or one of them is too long or of another dimension than the rule")]
     Vectors,
     /// The question exceeds a limit on its work.
     #[error("the question exceeds a limit on its work")]

@@ -13,7 +13,7 @@ use crate::conjugacy::Conjugacy;
 use crate::excess::Excess;
 use crate::measures::{MOST_CLAUSES, measure_of};
 use crate::question::Question;
-use crate::tori::is_heavy;
+use crate::tori::has_many_clauses;
 use dd_boxes::Goal;
 use dd_counts::{
     MOST_PATTERNS, MOST_STATES, MOST_WINDOWS, patterns, question_clauses, states, window_count,
@@ -94,7 +94,7 @@ impl Question<'_> {
     pub fn excess(&self, alloc: Global, limits: &Limits) -> Result<Option<Excess>, AllocError>
         requires limits { AreLimits limits.now }
         requires formed { IsFormed (asked_of self.now) }
-        ensures { IfOk result (λ passed. passed ≡ excess_of limits.now (asked_of self.now)) }
+        ensures { IfOk result (λ exceeded. exceeded ≡ excess_of limits.now (asked_of self.now)) }
     {
         match *self {
             Question::Membership { .. } | Question::Discharge { .. } => Ok(None),
@@ -116,7 +116,7 @@ impl Question<'_> {
                 rule,
                 periods,
                 weights,
-            } => Ok(is_heavy(rule, periods, weights).then_some(Excess::Clauses)),
+            } => Ok(has_many_clauses(rule, periods, weights).then_some(Excess::Clauses)),
             Question::Density { rule, strip, .. } => {
                 Ok(has_many_states(rule, strip_volume(strip)).then_some(Excess::States))
             }

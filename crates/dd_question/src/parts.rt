@@ -5,7 +5,7 @@ ghost use Rattle.dd_expansion.specs.Placed.{is_flat};
 ghost use Rattle.dd_formula.specs.LocalRule.{IsRule};
 ghost use Rattle.dd_formula.specs.Living.{Fits};
 ghost use Rattle.dd_strip.specs.Strips.{IsStrip, HasWeights};
-ghost use Rattle.dd_boxes.specs.Goals.{AreAlike, AreOver, IsGoalFor, KeepsRule};
+ghost use Rattle.dd_boxes.specs.Goals.{AreAlike, AreOver, IsGoalFor, HasValidRule};
 ghost use Rattle.dd_boxes.specs.Discharges.{IsVector, AreVectors, AreWeightsFor};
 ghost use Rattle.dd_boxes.specs.Views.{goal_of, numbers_of};
 ghost use Rattle.dd_question.specs.measuring.Vectors.{IsNear, is_among, are_apart};
@@ -84,7 +84,7 @@ fn are_over(
 /// Whether the goal fits the premise.
 fn is_goal_for(alloc: Global, premise: &Rule, goal: &Goal) -> Result<bool, AllocError>
     ensures value { IfOk result (λ is_goal. IsTrue is_goal ↔ IsGoalFor premise.now (goal_of premise.now goal.now)) }
-    ensures rule { OnOk result (KeepsRule (goal_of premise.now goal.now)) }
+    ensures rule { OnOk result (HasValidRule (goal_of premise.now goal.now)) }
 {
     match goal {
         Goal::Breaks(rule) => Ok(are_alike(premise, rule)),

@@ -60,10 +60,10 @@ pub enum Question<'a> {
     /// that obeys the rule? In a discharge, each position first holds the weight of its symbols. Then, along each of the
     /// vectors, it gives an amount to the position at the vector's end. The symbols of the box of radius `radius` around a
     /// position determine what it gives. A bound is a number such that a position holds at least this number in the end, in
-    /// each admissible filling of a finite region around it. A bound may not exceed the number of nodes times the greatest
+    /// each admissible filling of a finite region around it. A bound is also at most the number of nodes times the greatest
     /// weight. The region consists of the boxes of radius `radius` around the position and around the positions that give to
     /// it, each enlarged by `margin` in every direction. A filling of the region is admissible if its symbols are allowed and
-    /// the rule is true at each cell of the region for which all that the rule reads lies in the region.
+    /// the rule is true at each cell of the region at which it reads only cells of the region.
     Discharge {
         rule: &'a Rule,
         radius: u32,

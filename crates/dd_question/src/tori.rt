@@ -1,4 +1,4 @@
-//! Questions for a least weight on a torus: which may be asked, and how many clauses they take at most.
+//! Questions that ask for a least weight on a torus: which may be asked, and how many clauses they take at most.
 ghost use Rattle.std.specs.Prelude.{◌≡◌, ◌<◌, ◌^◌, ◌↔◌, IsTrue, IfErr, OnOk, length};
 ghost use Rattle.dd_pattern.specs.Periods.{periods_of, ArePeriodsIn};
 ghost use Rattle.dd_pattern.specs.Tile.{most_symbols};
@@ -8,7 +8,7 @@ ghost use Rattle.dd_boxes.specs.Counts.{most_clauses};
 ghost use Rattle.dd_boxes.specs.TorusPeriods.{AreTorusPeriods};
 ghost use Rattle.dd_question.specs.Questions as asked;
 ghost use Rattle.dd_question.specs.Questions.{IsFormed, IsPartFault};
-ghost use Rattle.dd_question.specs.Tori.{positions_in, cells_in, weight_clauses, is_heavy};
+ghost use Rattle.dd_question.specs.Tori.{positions_in, cells_in, weight_clauses, has_many_clauses};
 
 use crate::fault::QuestionFault;
 use crate::measures::MOST_CLAUSES;
@@ -51,7 +51,7 @@ fn is_torus(rule: &Rule, periods: [u32; 3]) -> bool
     are_periods(rule.dim(), periods) && cells_in(MOST_CELLS, rule, periods) <= MOST_CELLS
 }
 
-/// Tests the parts of a question for a least weight.
+/// Tests the parts of a question that asks for a least weight.
 #[tactic(auto, using(crate::specs::Questions::periods_fault, crate::specs::Questions::symbol_weights_fault))]
 pub(crate) fn check_least(
     rule: &Rule,
@@ -100,9 +100,9 @@ fn weight_clauses(rule: &Rule, periods: [u32; 3], weights: &[u32]) -> u32
 }
 
 /// Whether the bound of `weight_clauses` is over 2,000,000.
-pub(crate) fn is_heavy(rule: &Rule, periods: [u32; 3], weights: &[u32]) -> bool
+pub(crate) fn has_many_clauses(rule: &Rule, periods: [u32; 3], weights: &[u32]) -> bool
     requires { length weights.now ≡ rule.now.symbols }
-    ensures { result ≡ is_heavy rule.now periods weights.now }
+    ensures { result ≡ has_many_clauses rule.now periods weights.now }
 {
     weight_clauses(rule, periods, weights) > MOST_CLAUSES
 }

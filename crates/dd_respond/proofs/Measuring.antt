@@ -1,4 +1,5 @@
--- The answers about least densities and discharging are right, and an output can hold them. All right answers to a question have the same first line.
+-- The answers about least densities and discharging are right, and an output can hold them. Any two right answers to a question have the same first
+-- line.
 use Rattle.std.proofs.Common.{◌≡◌, ℕ, ◌+◌, ◌*◌, ◌≤◌, List, refl, ap, arith, ℤ, inl, inr}
 use Rattle.std.proofs.Math.Nat.{one-le-pow}
 use Rattle.std.specs.Int.{IsGcd}

@@ -1,5 +1,5 @@
--- The answers about the least weight of a fundamental box are right, and an output can hold them. All right answers to a question have the same first
--- line.
+-- The answers about the least weight of a fundamental box are right, and an output can hold them. Any two right answers to a question have the same
+-- first line.
 use Rattle.std.proofs.Common.{◌≡◌, ℕ, suc, ◌+◌, ◌*◌, ◌≤◌, true, List, length, refl, ap, arith, inl, inr}
 use Rattle.std.proofs.lemmas.{Nat.mul-le, Bool.cases_lt}
 use Rattle.dd_values.specs.Bounds.{most_variables}

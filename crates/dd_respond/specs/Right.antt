@@ -49,8 +49,8 @@ pub record IsRightBox (l : Limits) (x : LocalRule) (g : GoalOf) (a : Answer) : T
   pub decided : IsDecided x g l.radius l.period decision
   pub written : a ≡ written_decision decision
 
--- this is a right answer, within the limits, to the question about equality: whether no configuration that obeys one of the rules x and y makes the
--- other one false at any cell
+-- this is a right answer, within the limits, to the question about equality: whether each of the rules x and y is true at every cell of every
+-- configuration that obeys the other
 pub record IsRightEqual (l : Limits) (x y : LocalRule) (a : Answer) : Type 0 where
   pub decision : Equality
   pub decided : IsEqualDecided x y l.radius l.period decision

@@ -1,5 +1,5 @@
--- Which answers about the least weight of a fundamental box, the box that repeats in a periodic configuration, are right. A configuration has no
--- shear if each of its period vectors lies along its own axis.
+-- Which answers about the least weight of a fundamental box are right. The fundamental box of a periodic configuration is the box that repeats. A
+-- configuration has no shear if each of its period vectors lies along its own axis.
 use Rattle.std.specs.Prelude.{ℕ, ◌≡◌, ◌<◌, List}
 use Rattle.dd_pattern.specs.{Periods.periods_of, Tile.Tile, Weight.total_weight}
 use Rattle.dd_formula.specs.LocalRule.{LocalRule}

@@ -1,5 +1,5 @@
-//! Answers to box questions, and to questions about equality: whether no configuration that obeys one of two rules makes the
-//! other one false at any cell.
+//! Answers to box questions, and to questions about equality: whether each of two rules is true at every cell of every
+//! configuration that obeys the other.
 ghost use Rattle.std.specs.Prelude.{◌≡◌, All, IfOk};
 ghost use Rattle.dd_boxes.specs.Goals.{breaks};
 ghost use Rattle.dd_boxes.specs.Views.{goal_of};

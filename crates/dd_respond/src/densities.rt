@@ -1,7 +1,7 @@
 //! Answers to questions about the least density of a strip. A strip has periods along y and z, and no end along x. A
 //! configuration lives on the strip if it has these periods, some period along x and no shear, and obeys the rule everywhere.
-//! (The shear is how far the period vector of y goes along x.) Each symbol has a weight. The density of a configuration is its
-//! weight per position.
+//! (The shear is how far the second period vector goes along x.) Each symbol has a weight. The density of a configuration is
+//! its weight per position.
 ghost use Rattle.std.specs.Prelude.{◌≡◌, IfOk};
 ghost use Rattle.dd_certificate.specs.Bounds.{IsWritable};
 ghost use Rattle.dd_question.specs.Densities.{IsNarrow};

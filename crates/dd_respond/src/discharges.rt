@@ -1,8 +1,8 @@
 //! Answers to questions about discharging. In a discharge, each position first holds the weight of its symbols. Then, along
-//! each of some vectors, it gives an amount to the position at the vector's end. The pattern around the giver determines the
+//! each vector of a list, it gives an amount to the position at the vector's end. The pattern around the giver determines the
 //! amount, which is at least 0. A bound is a number such that each position holds at least this number in the end, in each
-//! admissible filling of the cells around it (see `dd_rows`). It must not exceed the number of nodes times the greatest
-//! weight. The best bound, over all such discharges, is the value of a linear program (see `dd_discharge`).
+//! admissible filling of the cells around it (see `dd_rows`). It must not exceed the number of nodes times the greatest weight.
+//! The best bound, over all such discharges, is the value of a linear program (see `dd_discharge`).
 ghost use Rattle.std.specs.Prelude.{◌≡◌, IfOk};
 ghost use Rattle.dd_certificate.specs.Bounds.{IsWritable};
 ghost use Rattle.dd_discharge.specs.Printed.{IsSmallBound};

@@ -1,5 +1,5 @@
-//! Finds right answers to questions about rules. `dd_question` says what rules, configurations and tori are, and what each
-//! kind of question asks. All right answers to a question within the same limits have the same first line, and differ only in
+//! Finds right answers to questions about rules. `dd_question` says what rules, configurations and tori are, and what each kind
+//! of question asks. Any two right answers to a question within the same limits have the same first line, and differ only in
 //! their evidence.
 //!
 //! Some questions come down to box questions. A box question has a rule (its premise) and a goal: a property of a position,
@@ -14,8 +14,8 @@
 //!
 //! The limits bound the radii and the periods of the search, and the pivots of a run of the simplex method. But the smallest
 //! box that holds all that the goal reads is always tried. If the limits leave a question undecided, the answer is UNKNOWN. The
-//! answer to a question about discharging is also UNKNOWN if the question's linear program is too large, or if a number in the
-//! run or in its result is.
+//! answer to a question about discharging is also UNKNOWN if the question's linear program, or a number in the run or in its
+//! result, is too large.
 #![tactic(auto)]
 
 mod boxes;

@@ -4,7 +4,7 @@ use Rattle.std.specs.List.{flat_map, range_with_len, list_all}
 use Rattle.dd_lattice.specs.declared.position.Cell.{Cell}
 use Rattle.dd_pattern.specs.{Reading.Look, Filling.filled, Filling.filling_look}
 use Rattle.dd_formula.specs.LocalRule.{LocalRule, rule_allows, is_true}
-use Rattle.dd_boxes.specs.Fillings.{place_fits}
+use Rattle.dd_boxes.specs.Fillings.{rule_fits}
 
 -- the look-up of the filling that gives the symbols ss to the cells cs, in order; a look-up gives each cell its symbol, or none
 abbrev pub look_of : List Cell → List ℕ → Look
@@ -21,7 +21,7 @@ words x (c ∷ cs) = flat_map (λ s. map (λ ss. s ∷ ss) (words x cs)) (allowe
 
 -- Whether the rule is true at the cell c, or doesn't fit there. It fits if c, and each cell that it reads there, has a symbol.
 abbrev pub is_true_if_it_fits : LocalRule → Look → Cell → Bool
-is_true_if_it_fits x look c = not (place_fits x look c) || is_true x c look
+is_true_if_it_fits x look c = not (rule_fits x look c) || is_true x c look
 
 -- Whether `is_true_if_it_fits` holds at each of the cells. If ss has at most as many items as cs, it holds at any other cell as well, since that cell
 -- has no symbol.

@@ -1,10 +1,10 @@
-//! The reasons why a call of this crate may fail.
+//! The reasons why a call to this crate may fail.
 ghost use Rattle.std.specs.Prelude.{◌≡◌};
 
 use std::alloc::AllocError;
 use thiserror::Error;
 
-/// Why a call of this crate failed.
+/// Why a call to this crate failed.
 #[derive(Clone, Copy, Debug, PartialEq, Eq, Error)]
 pub enum RowsFault {
     /// Some prefix of the list of cells has more than 65,536 admissible fillings, or the program would have more than 256

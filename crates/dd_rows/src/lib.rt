@@ -5,9 +5,9 @@
 //! box of a given radius around p. This box has the positions that are, along each axis, at most the radius away from p. The
 //! program looks for amounts, each at least 0, and for a number c that is as great as possible. It demands that the origin
 //! holds at least c in the end, in each admissible filling of a finite set of cells, the ground (see below). It also demands
-//! that c is at most the number of nodes times the greatest weight of a symbol. A configuration gives each cell of Z^d a
-//! symbol that the cell's node allows. It obeys the rule if the rule is true at every cell. It follows that each position of
-//! each configuration that obeys the rule holds at least c in the end.
+//! that c is at most the number of nodes times the greatest weight of a symbol. A configuration gives each cell of Z^d a symbol
+//! that the cell's node allows. It obeys the rule if the rule is true at every cell. The first demand implies that each
+//! position of each configuration that obeys the rule holds at least c in the end.
 //!
 //! A filling of some cells gives each of them a symbol that the cell's node allows. It is admissible if the rule is true at
 //! each cell where the rule fits: where the cell, and each cell that the rule reads there, has a symbol. The domain is made of

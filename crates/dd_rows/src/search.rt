@@ -99,8 +99,8 @@ fn next_level(
 }
 
 /// For each cell, its last number. This is the greatest among the cell's own number and the numbers of the cells that the rule
-/// reads there. The rule can be tested at the cell once the cell with the last number has a symbol. If the rule reads there a
-/// cell that isn't in the list, the last number is the list's length, and the rule is never tested at the cell.
+/// reads there. The rule can be tested at the cell once the cell with the last number has a symbol. If one of the cells that
+/// the rule reads there isn't in the list, the last number is the list's length, and the rule is never tested at the cell.
 fn last_numbers(alloc: Global, rule: &Rule, cells: &[Cell]) -> Result<Vec<usize>, AllocError>
     requires ascending { IsStrictlySortedBy cell_cmp cells.now }
     requires nodes { AreOf rule.now cells.now }
@@ -180,8 +180,8 @@ fn places_by_number(
 
 /// All admissible fillings of the cells, in lexicographic order. Each is the list of the cells' symbols, in the order of the
 /// cells. A filling is admissible if each symbol is one that its cell's node allows, and the rule is true at each of the cells
-/// where it fits: where each cell that it reads has a symbol. The cells must be distinct, in cell order and in range, and
-/// their nodes must be nodes of the rule.
+/// where the rule fits: where each cell that the rule reads there has a symbol. The cells must be distinct, in cell order and
+/// in range, and their nodes must be nodes of the rule.
 ///
 /// # Errors
 /// - `Large` if a prefix of the cells has more than 65,536 admissible fillings.

@@ -41,25 +41,25 @@ module _ (d : Draft) (is : IsScriptOf (parts_of d)) where
   s = parts_of d
 
   -- the script after the command c
-  abbrev behind : Command → Parts
-  behind c = with d.context.text s (meaning d.context d.made.automata c)
+  abbrev after : Command → Parts
+  after c = with d.context.text s (meaning d.context d.made.automata c)
 
-  pub ready_behind : (c : Command) → IsReady (stage (head_of c)) s → IsReady (next_stage (head_of c)) (behind c)
-  ready_behind c ready = grind arith
+  pub ready_after : (c : Command) → IsReady (stage (head_of c)) s → IsReady (next_stage (head_of c)) (after c)
+  ready_after c ready = grind arith
 
   -- What holds of the script still holds after the command c. A command of the header may change all that is known except the names of definitions,
   -- but then nothing is defined or asked yet. A later command only adds a definition or a query.
-  pub kept_behind : (c : Command) → IsReady (stage (head_of c)) s → IsSoundMeaning d.context (meaning d.context d.made.automata c) → asked_fault s (meaning d.context d.made.automata c) ≡ None
-      → HavePairs d.context.known (comparisons_in s (meaning d.context d.made.automata c)) → HasSets (behind c).known → IsScriptOf (behind c)
-  kept_behind (Command.Rule name f) ready sound faultless pairs has =
+  pub kept_after : (c : Command) → IsReady (stage (head_of c)) s → IsSoundMeaning d.context (meaning d.context d.made.automata c) → asked_fault s (meaning d.context d.made.automata c) ≡ None
+      → HavePairs d.context.known (comparisons_in s (meaning d.context d.made.automata c)) → HasSets (after c).known → IsScriptOf (after c)
+  kept_after (Command.Rule name f) ready sound faultless pairs has =
       more s is (one_more (word_text d.context.text name) _ is.rules sound.1) (stay is.automata) (stay is.configurations) s.queries is.queries
-  kept_behind (Command.Automaton name cases symbol) ready sound faultless pairs has =
+  kept_after (Command.Automaton name cases symbol) ready sound faultless pairs has =
       more s is (stay is.rules) (one_more (word_text d.context.text name) _ is.automata sound.1) (stay is.configurations) s.queries is.queries
-  kept_behind (Command.Composition name outer inner) ready sound faultless pairs has =
+  kept_after (Command.Composition name outer inner) ready sound faultless pairs has =
       more s is (stay is.rules) (one_more (word_text d.context.text name) _ is.automata sound.1) (stay is.configurations) s.queries is.queries
-  kept_behind (Command.Configuration name periods shear symbols) ready sound faultless pairs has =
+  kept_after (Command.Configuration name periods shear symbols) ready sound faultless pairs has =
       more s is (stay is.rules) (stay is.automata) (one_more (word_text d.context.text name) _ is.configurations sound.1) s.queries is.queries
-  kept_behind (Command.Query r) ready sound faultless pairs has =
+  kept_after (Command.Query r) ready sound faultless pairs has =
       more s is (stay is.rules) (stay is.automata) (stay is.configurations) _
       (All-push (IsQueryOf s) s.queries _ is.queries (record { within = sound; pairs = pairs; within_limits = second_none _ _ _ faultless }))
-  kept_behind c ready sound faultless pairs has = grind (arith, common_steps, light_range, length-range_with_len)
+  kept_after c ready sound faultless pairs has = grind (arith, common_steps, light_range, length-range_with_len)

@@ -11,7 +11,7 @@ use Rattle.dd_commands.specs.Scripts.{parts as texts_of, stage_after, AreCommand
 use Rattle.dd_faults.specs.lemmas.Nothing.{none_first, parts as no_faults}
 use Rattle.dd_meanings.specs.Sound.{IsSoundMeaning}
 use Rattle.dd_pairs.specs.Made.{HavePairs}
-use Rattle.dd_script.proofs.Kept.{IsReady, HasSets, ready_behind, kept_behind}
+use Rattle.dd_script.proofs.Kept.{IsReady, HasSets, ready_after, kept_after}
 
 -- ---- one command
 
@@ -87,7 +87,7 @@ module _ (text : List ℕ) (ws : List Written) (i : ℕ) (d : Draft) (w : Writte
   written_here all = rw (sofar.same_text, is) (All-get_or (IsWritten text) ws i w lt all)
 
   -- the command at the index i has no fault, and its meaning is added; if the sets of allowed symbols are then well formed, `Sofar` holds for one
-  -- command more
+  -- more command
   pub goes_on : (m : Meaning) → Means d w m → (e : Draft) → e ≡ with_meaning d m → HasSets e.context.known → Sofar text ws (i + 1) e
   goes_on m means e added has =
       let all : e ≡ with_meaning d (meant d w) = added ∙ ap (with_meaning d) means.is in
@@ -96,8 +96,8 @@ module _ (text : List ℕ) (ws : List Written) (i : ℕ) (d : Draft) (w : Writte
         from = stage_after w;
         left = here.1;
         are = here.2;
-        fresh = ready_behind d sofar.script w.command ready;
-        script = kept_behind d sofar.script w.command ready (rw means.is at means.sound) (rw means.is at means.within_limits) (rw means.is at means.pairs) (rw all at has);
+        fresh = ready_after d sofar.script w.command ready;
+        script = kept_after d sofar.script w.command ready (rw means.is at means.sound) (rw means.is at means.within_limits) (rw means.is at means.pairs) (rw all at has);
         same_text = sofar.same_text;
         leads = leads_with None means.faultless;
       })

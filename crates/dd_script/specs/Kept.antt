@@ -7,7 +7,7 @@ use Rattle.dd_pairs.specs.Made.{HavePairs}
 use Rattle.dd_script.specs.Parts.{Parts, Query}
 pub use Rattle.dd_script.specs.Questions.{query_excess, comparisons_for}
 
--- What the query names exists, and its numbers and vectors are within their bounds. If it asks about pairs of automata, there are at least two
+-- What the query names exists, and its numbers and vectors are within their bounds. If it is about an image or a conjugacy, there are at least two
 -- symbols. Its pairs are well formed. Neither they, nor the questions about them, nor the query's own question exceeds a limit on scripts.
 pub record IsQueryOf (s : Parts) (q : Query) : Type 0 where
   pub within : IsQueryWithin s.known q

@@ -36,8 +36,8 @@ asked s (Query.Density rule strip) = option_map (λ x. question.density x strip 
 asked s (Query.Least rule periods) = option_map (λ x. question.least x periods s.known.weights) (slice_get s.rules rule)
 asked s (Query.Discharge rule radius margin vectors) = option_map (λ x. question.discharge x radius margin vectors s.known.weights) (slice_get s.rules rule)
 
--- The limit on work that the query's question exceeds, if there are such a question and such a limit. The work for box questions depends on the
--- script's search limits.
+-- The limit on work that the query's question exceeds, if the query has a question and this question exceeds one. The work for box questions depends
+-- on the script's search limits.
 abbrev pub query_excess : Parts → Query → Option Excess
 query_excess s q = option_and_then (excess_of s.known.limits) (asked s q)
 

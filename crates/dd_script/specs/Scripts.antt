@@ -37,7 +37,7 @@ pub record HasFault (bytes : List ℕ) (n : ℕ) (k : RefusalKind) : Type 0 wher
   pub is : k ≡ kind_of bytes found
 
 -- The bytes are refused with the number n and this kind. They are refused for the first command that is not well formed (n is 0 if some token stands
--- before the first command). If all commands are well formed, they are refused for the first fault.
+-- before the first command). If all commands are well formed, the bytes are refused for the first fault of a command.
 abbrev pub RefusedAs : List ℕ → ℕ → RefusalKind → Type 0
 RefusedAs bytes n syntax = IsSyntaxFault bytes n
 RefusedAs bytes n (unknown text) = HasFault bytes n (unknown text)

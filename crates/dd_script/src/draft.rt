@@ -108,7 +108,7 @@ impl Draft {
         Ok(meaning)
     }
 
-    /// Adds the next command, which has this meaning. If memory runs out, nothing is known of the draft.
+    /// Adds the next command, which has this meaning. If memory runs out, nothing is known about the draft.
     pub(crate) fn add(&mut self, alloc: Global, meaning: Meaning) -> Result<(), AllocError>
         requires counted { self.old.context.number ≤ most_commands }
         requires sound { IsSound self.old.context.known }

@@ -18,9 +18,9 @@
 //! at the position. `dd_pairs` makes the pairs: one for a query about an image, and four for a query about a conjugacy.
 //! `Question` describes the other kinds of questions.
 //!
-//! There are two kinds of limits. A script's search limits (`Limits`) bound the searches for its answers. Beyond them an answer
-//! is UNKNOWN. diddy's limits on scripts (`Limit`) bound what a script may contain, and how much work a question may take. A
-//! text that exceeds one of them is refused.
+//! There are two kinds of limits. A script's search limits (`Limits`) bound the searches for its answers. If they leave a query
+//! unsettled, its answer is UNKNOWN. diddy's limits on scripts (`Limit`) bound what a script may contain, and how much work a
+//! question may take. A text that exceeds one of them is refused.
 #![tactic(auto)]
 
 mod draft;

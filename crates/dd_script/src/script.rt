@@ -128,9 +128,9 @@ impl Script {
         self.contents.get().made.rules.as_slice()
     }
 
-    /// The automata, among them compositions, in the order of their definitions. Each automaton is well formed and has the
+    /// The automata, including compositions, in the order of their definitions. Each automaton is well formed and has the
     /// script's dimension, nodes and symbols. The rules in an automaton are those of its cases, or those of the two automata
-    /// that it composes. These rules are made over the script's topology and the symbols that the script's nodes allow.
+    /// that it composes. These rules are over the script's topology, its symbols, and the symbols that its nodes allow.
     pub fn automata(&self) -> &[Automaton]
         ensures value { result.now ≡ self.now.automata }
         ensures kept { IsScriptOf self.now }
@@ -162,7 +162,7 @@ impl Script {
     ghost use Rattle.dd_script.specs.Questions.{pairs_for};
     ghost use Rattle.dd_script.specs.Asking.{Asks, AreSound};
 
-    /// The pairs of automata that a query of the script asks about. There are none unless the query is about an image or a
+    /// The pairs of automata that are made for a query of the script. There are none unless the query is about an image or a
     /// conjugacy. A script doesn't store the pairs, since each may be as large as the script.
     ///
     /// # Errors

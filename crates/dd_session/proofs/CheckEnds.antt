@@ -9,7 +9,7 @@ use Rattle.dd_script.specs.{Parts.Parts, Scripts.Spells, Scripts.RefusedAs, Scri
 use Rattle.dd_session.specs.declared.status.Status.{Status}
 use Rattle.dd_session.specs.declared.status.Status.TheVariants.{Definite, SomeUnknown, Refused, ReadFault, WriteFault, Memory, BadWords, Rejected}
 use Rattle.dd_session.specs.{Output.long_line, Sides.Change, Sides.RefusedBy}
-use Rattle.dd_session.specs.Checks.{most_checked, IsOutput, IsCheckable, IsRefusedOutput, malformed, no_script, IsCheckedOutput}
+use Rattle.dd_session.specs.Checks.{most_checked, IsOutput, IsCheckable, IsRefusedOutput, malformed, no_script, IsCheckableOutput}
 use Rattle.dd_session.specs.Checked.{CheckedOver, CheckEnded, CheckDecides, WholeCheck, WholeRejection, WholeRefusedOutput, Read}
 use Rattle.dd_session.proofs.Decided.{NeverBoth, known_bytes, known_more}
 
@@ -55,7 +55,7 @@ took_output old new bytes to_end short = record { given = bytes; consumed = to_e
 abbrev pub OneOutput : Type 0
 OneOutput = (a b : Output) → IsWritableOutput a → IsWritableOutput b → output_text a ≡ output_text b → a ≡ b
 
-too_long : (bytes : List ℕ) (left : Option (List ℕ)) → GivesMore (Some bytes) left most_checked → ¬ IsCheckedOutput bytes
+too_long : (bytes : List ℕ) (left : Option (List ℕ)) → GivesMore (Some bytes) left most_checked → ¬ IsCheckableOutput bytes
 too_long bytes left more can = omega (arith, known_more bytes left most_checked more, can.short)
 
 -- no check ends with `BadWords`

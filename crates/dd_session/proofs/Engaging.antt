@@ -17,7 +17,7 @@ use Rattle.dd_session.specs.declared.status.Status.{Status}
 use Rattle.dd_session.specs.declared.status.Status.TheVariants.{Definite, SomeUnknown, Refused, ReadFault, WriteFault, Memory, BadWords, Rejected}
 use Rattle.dd_session.specs.{declared.stream.RunFault.RunFault, Output.header, Sides.Change, Sides.RefusedBy, Sides.status_of}
 use Rattle.dd_session.specs.{Written.AnsweredToEnd, Written.AnsweredShort, Runs.IsAccepted}
-use Rattle.dd_session.specs.Asking.{HeaderTaken, Begun, HasBegun, IsToEnd, IsUnanswered, AsksFirstOver, AsksFirst}
+use Rattle.dd_session.specs.Asking.{HeaderWritten, Begun, HasBegun, IsToEnd, IsUnanswered, AsksFirstOver, AsksFirst}
 use Rattle.dd_session.proofs.{Decided.known_bytes, Streamed.one_more}
 
 -- ---- queries one by one
@@ -77,16 +77,16 @@ module _ (earlier : (before between after : List Seen) → Kept before between �
 
 -- ---- no engine is asked before the header is written
 
-pub header_then : (a b c : Option (List ℕ)) (bytes text more : List ℕ) → text ≡ header bytes → Appends a b text → Appends b c more → HeaderTaken a c bytes
+pub header_then : (a b c : Option (List ℕ)) (bytes text more : List ℕ) → text ≡ header bytes → Appends a b text → Appends b c more → HeaderWritten a c bytes
 header_then a b c bytes text more is before after = record { more = more; appends = Appends-trans a b c _ _ (subst (Appends a b) is before) after }
 
 -- The header was written, and then all answers and the end line, or a prefix of these.
 pub taken_before : (a b c : Option (List ℕ)) (bytes : List ℕ) (s : Parts) (text : List ℕ) (r : Result Bool RunFault) → text ≡ header bytes → Appends a b text
-    → IfOk r (λ u. AnsweredToEnd answer_text b c s u) → OnErr r (AnsweredShort answer_text b c s) → HeaderTaken a c bytes
+    → IfOk r (λ u. AnsweredToEnd answer_text b c s u) → OnErr r (AnsweredShort answer_text b c s) → HeaderWritten a c bytes
 taken_before a b c bytes s text (Ok u) is before whole short = header_then a b c bytes text _ is before whole.appends
 taken_before a b c bytes s text (Err e) is before whole short = header_then a b c bytes text _ is before short.front.appends
 
-pub begun : (P : Type 0) (old new : Option (List ℕ)) (bytes : List ℕ) (s : Parts) → Spells bytes s → P ⊎ HeaderTaken old new bytes → P ⊎ Begun old new bytes
+pub begun : (P : Type 0) (old new : Option (List ℕ)) (bytes : List ℕ) (s : Parts) → Spells bytes s → P ⊎ HeaderWritten old new bytes → P ⊎ Begun old new bytes
 begun P old new bytes s spelled (inl p) = inl p
 begun P old new bytes s spelled (inr taken) = inr record { script = s; spelled = spelled; taken = taken }
 

@@ -31,7 +31,7 @@ AreUnasked roster = roster.new ≡ roster.old
 -- ---- when the first engine is asked
 
 -- The whole header, which is all lines before the first answer, was written, perhaps with more after it.
-pub record HeaderTaken (old new : Option (List ℕ)) (bytes : List ℕ) : Type 0 where
+pub record HeaderWritten (old new : Option (List ℕ)) (bytes : List ℕ) : Type 0 where
   pub more : List ℕ
   pub appends : Appends old new (header bytes ++ more)
 
@@ -39,7 +39,7 @@ pub record HeaderTaken (old new : Option (List ℕ)) (bytes : List ℕ) : Type 0
 pub record Begun (old new : Option (List ℕ)) (bytes : List ℕ) : Type 0 where
   pub script : Parts
   pub spelled : Spells bytes script
-  pub taken : HeaderTaken old new bytes
+  pub taken : HeaderWritten old new bytes
 
 -- The source was read to its end, it gave a script, and the whole header was written.
 pub record HasBegun (left_old left_new held_old held_new : Option (List ℕ)) : Type 0 where

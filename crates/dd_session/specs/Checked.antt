@@ -8,14 +8,14 @@ use Rattle.dd_script.specs.Parts.{Parts}
 use Rattle.dd_session.specs.declared.status.Status.{Status}
 use Rattle.dd_session.specs.declared.status.Status.TheVariants.{Definite, SomeUnknown, Refused, ReadFault, WriteFault, Memory, BadWords, Rejected}
 use Rattle.dd_session.specs.{Output.long_line, Sides.Change, Sides.IsUntouched, Sides.HasFailed}
-use Rattle.dd_session.specs.Checks.{accepted_lines, checked_line, rejected_line, most_checked, AcceptedTo, IsEnding, IsCheckable, IsRefusedOutput, IsAllAccepted, IsRejectedAfter, IsCheckedOutput}
+use Rattle.dd_session.specs.Checks.{accepted_lines, checked_line, rejected_line, most_checked, AcceptedTo, IsEnding, IsCheckable, IsRefusedOutput, IsAllAccepted, IsRejectedAfter, IsCheckableOutput}
 
 -- All answers in the bytes are accepted, and the whole text that says so was written. `has` says whether some answer is UNKNOWN.
 pub record WholeCheck (old new : Option (List ℕ)) (has : Bool) (bytes : List ℕ) : Type 0 where
   pub all : IsAllAccepted has bytes
   pub appends : Appends old new (accepted_lines (length all.output.answers) ++ checked_line (length all.output.answers))
 
--- Something is rejected, and all lines up to that of the first rejection were written.
+-- Something is rejected, and all lines up to and including that of the first rejection were written.
 pub record WholeRejection (old new : Option (List ℕ)) (bytes : List ℕ) : Type 0 where
   pub done : ℕ
   pub rejected : IsRejectedAfter done bytes
@@ -95,4 +95,4 @@ pub record CheckDecides (bytes : List ℕ) (status : Status) : Type 0 where
   pub definite : status ≡ Definite → (length bytes ≤ most_checked) × IsAllAccepted false bytes
   pub some_unknown : status ≡ SomeUnknown → (length bytes ≤ most_checked) × IsAllAccepted true bytes
   pub rejected : status ≡ Rejected → (length bytes ≤ most_checked) × ((done : ℕ) × IsRejectedAfter done bytes)
-  pub refused : status ≡ Refused → ¬ IsCheckedOutput bytes
+  pub refused : status ≡ Refused → ¬ IsCheckableOutput bytes

@@ -104,7 +104,7 @@ pub record IsRejectedAfter (done : ℕ) (bytes : List ℕ) : Type 0 where
   pub rejected : FirstRejected script output.answers done
 
 -- The bytes are an output with a script, and are not too long.
-pub record IsCheckedOutput (bytes : List ℕ) : Type 0 where
+pub record IsCheckableOutput (bytes : List ℕ) : Type 0 where
   pub short : length bytes ≤ most_checked
   pub output : Output
   pub script : Parts

@@ -24,5 +24,5 @@ pub mod Checks
 pub mod Agreement
 -- the check of answers one by one
 pub mod checking
--- how much of an answer is written, and why a call that writes failed
+-- how much of an answer is written, and why writing failed
 pub mod writing

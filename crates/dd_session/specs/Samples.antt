@@ -17,8 +17,8 @@ is_memory refused.Dimension = false
 is_memory (refused.Size l) = false
 is_memory refused.Memory = true
 
--- How far the first lines of right answers to the queries of a script were written, for each status. `Definite` and `SomeUnknown` also say
--- whether some query has no definite answer.
+-- How much was written of the first lines of right answers to the queries of a script, for each status. `Definite` and `SomeUnknown` also say whether
+-- some query has no definite answer.
 abbrev pub LinesOf : {K : Type 0} → Change K → Parts → Status → Type 0
 LinesOf sink s Definite = AnsweredToEnd answer_line sink.bytes_old sink.bytes_new s false × IsOpenAs false s
 LinesOf sink s SomeUnknown = AnsweredToEnd answer_line sink.bytes_old sink.bytes_new s true × IsOpenAs true s

@@ -35,7 +35,8 @@ IsUntouched side = side.new ≡ side.old
 abbrev pub HasFailed : {X : Type 0} → Change X → Type 0
 HasFailed side = Rose side.faults_old side.faults_new
 
--- The line for a refused input was written; or, with the status `WriteFault`, a prefix of it, and `HasFailed` holds for the sink.
+-- With the status `Refused`, the line for a refused input was written. With `WriteFault`, a prefix of this line was written, and `HasFailed` holds
+-- for the sink. There is no other status.
 abbrev pub RefusedBy : {K : Type 0} → Change K → List ℕ → Status → Type 0
 RefusedBy sink line Refused = Appends sink.bytes_old sink.bytes_new line
 RefusedBy sink line WriteFault = GainsFront sink.bytes_old sink.bytes_new line × HasFailed sink
@@ -47,14 +48,14 @@ RefusedBy sink line BadWords = ⊥
 RefusedBy sink line Rejected = ⊥
 
 -- The line for bytes that aren't a script was written, or a prefix of this line, as `RefusedBy` says. The line begins with `words`.
-pub record LineRefused {K : Type 0} (sink : Change K) (words : List ℕ) (command : ℕ) (kind : ScriptKind) (status : Status) : Type 0 where
+pub record RefusedByLine {K : Type 0} (sink : Change K) (words : List ℕ) (command : ℕ) (kind : ScriptKind) (status : Status) : Type 0 where
   pub line : List ℕ
   pub line_is : IsLineOf words command kind line
   pub wrote : RefusedBy sink line status
 
--- The line was written as `LineRefused` says, or memory ran out before anything was written.
+-- The line was written as `RefusedByLine` says, or memory ran out before anything was written.
 abbrev pub RefusedFor : {K : Type 0} → Change K → List ℕ → ℕ → ScriptKind → Status → Type 0
-RefusedFor sink words command kind status = LineRefused sink words command kind status ⊎ ((status ≡ Memory) × IsUntouched sink)
+RefusedFor sink words command kind status = RefusedByLine sink words command kind status ⊎ ((status ≡ Memory) × IsUntouched sink)
 
 -- The status of a run that came to its end, or of a check that rejected nothing. The truth value says whether some answer is UNKNOWN.
 abbrev pub status_of : Bool → Status

@@ -1,4 +1,4 @@
 -- whole answers, or their first lines
 pub mod Forms
--- why a call that writes failed
+-- why writing failed
 pub mod Faults

@@ -109,8 +109,8 @@ fn check<S: Source, K: Sink>(alloc: Global, source: &mut S, sink: &mut K) -> Sta
 /// - `refused script C KIND`: the script part of the output isn't a script. C is the number of the command at fault, or 0 if
 ///   the fault comes before the first command, and KIND says what is wrong.
 ///
-/// If the source fails, nothing is written. If the sink fails or memory runs out, perhaps only a prefix of these lines was
-/// written. At most `MOST_OUTPUT` + 1 bytes are taken from the source.
+/// If the source fails, nothing is written. If the sink fails or memory runs out, what was written may be only a prefix of
+/// these lines. At most `MOST_OUTPUT` + 1 bytes are taken from the source.
 pub fn check_diddy<S: Source, K: Sink>(alloc: Global, source: &mut S, sink: &mut K) -> Status
     ensures checked { IsCheck (change S.left S.faults source.old source.new) (change K.held K.faults sink.old sink.new) result }
     ensures faults { KeepsCounts (change S.left S.faults source.old source.new) (change K.held K.faults sink.old sink.new) }

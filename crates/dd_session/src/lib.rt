@@ -1,7 +1,7 @@
 //! Whole sessions. A session does one of three things: it runs a script and writes its output, it checks such an output, or it
 //! runs a sample, which is a script that the program makes itself. If the words of the command line ask for none of these, it
 //! does nothing. A script asks queries about rules, configurations and automata. Its output has an answer to each query. Bytes
-//! spell a script if they follow the grammar, have no fault, and mean this script. Bytes are read from a source and written to
+//! spell a script if they follow the grammar, have no fault, and mean that script. Bytes are read from a source and written to
 //! a sink.
 //!
 //! `dd_answer` defines which answers to a query are right. Any two right answers to a query have the same first line. A

@@ -7,7 +7,7 @@ ghost use Rattle.dd_engines.specs.Rounds.{FirstAsked};
 ghost use Rattle.dd_sample.specs.Sample.{IsSampleNumber, sample_text};
 ghost use Rattle.dd_script.specs.Scripts.{Spells};
 ghost use Rattle.dd_answer.specs.Asking.{AsksSomeBoxes};
-ghost use Rattle.dd_session.specs.Asking.{engines, AreKept, HeaderTaken, Begun, HasBegun, IsToEnd, AsksFirstOver, AsksFirst};
+ghost use Rattle.dd_session.specs.Asking.{engines, AreKept, HeaderWritten, Begun, HasBegun, IsToEnd, AsksFirstOver, AsksFirst};
 ghost use Rattle.dd_session.specs.Words.{IsOnly, IsSampleOf};
 ghost use Rattle.dd_session.specs.Sides.{change, status_of, RefusedBy, RefusedFor};
 ghost use Rattle.dd_session.specs.Runs.{RanOver, Ended};
@@ -22,7 +22,7 @@ use dd_answer::one_line;
 use dd_engines::{Engine, Roster, kept_is_reflexive};
 use dd_outside::{ReadAllFault, Sink, Source, WriteFault, read_all, write_whole};
 use dd_sample::{sample_number, sample_script};
-use dd_sampling::samples_spell;
+use dd_sample_laws::samples_spell;
 use dd_script::{Script, ScriptFault, ScriptKind, parse};
 use dd_spelling::spelled_or_refused;
 use dd_values::MOST_SCRIPT;
@@ -100,7 +100,7 @@ fn run_accepted<K: Sink, E: Engine>(
     ensures ran { RanOver (change K.held K.faults sink.old sink.new) bytes.now result }
     ensures later { K.faults sink.old ≤ K.faults sink.new }
     ensures kept { AreKept (engines E.asked E.given E.sound roster.old roster.new) result }
-    ensures late { (roster.new ≡ roster.old) ⊎ HeaderTaken (K.held sink.old) (K.held sink.new) bytes.now }
+    ensures late { (roster.new ≡ roster.old) ⊎ HeaderWritten (K.held sink.old) (K.held sink.new) bytes.now }
     ensures asked { IsToEnd result → AsksSomeBoxes script.now script.now.queries → FirstAsked (roster_seen E.asked E.given E.sound roster.old) (roster_seen E.asked E.given E.sound roster.new) }
 {
     one_line(script);
@@ -253,8 +253,8 @@ fn run_sample<K: Sink, E: Engine>(
 /// written in decimal without a leading zero. For each query the first line of a right answer is written as soon as it is
 /// known. The line `end` comes last. The source is left as it is.
 ///
-/// If the source fails, nothing is written. If the sink fails or memory runs out, perhaps only a prefix of the full text was
-/// written.
+/// If the source fails, nothing is written. If the sink fails or memory runs out, what was written may be only a prefix of the
+/// full text.
 ///
 /// `run` and `sample` ask the engines of the roster before each search that a box question needs. What is written is right,
 /// whatever the engines propose. A run comes to its end if its status is `Definite` or `SomeUnknown`. If it comes to its end,

@@ -9,7 +9,7 @@ pub enum Status {
     /// Some answer is UNKNOWN. UNKNOWN claims nothing. It is right if its query isn't settled within the limits on the work
     /// for one answer and on the size of numbers.
     SomeUnknown = 1,
-    /// The input was refused, and no query was answered or checked.
+    /// The input was refused. No query was answered, and no answer was checked.
     Refused = 2,
     /// The source failed.
     ReadFault = 3,
@@ -19,6 +19,6 @@ pub enum Status {
     Memory = 5,
     /// The words ask for nothing that a session does.
     BadWords = 6,
-    /// A check found a missing answer, an answer too many, or an answer that isn't a certificate.
+    /// A check found that an answer is missing, is one too many, or isn't a certificate.
     Rejected = 7,
 }

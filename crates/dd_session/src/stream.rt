@@ -9,7 +9,7 @@ ghost use Rattle.dd_answer.specs.Asking.{AsksBoxes, AsksSomeBoxes};
 ghost use Rattle.dd_respond.specs.Asking.{AreEngaged};
 ghost use Rattle.dd_respond.specs.Right.{is_unknown};
 ghost use Rattle.dd_session.specs.declared.stream.RunFault.TheVariants.{WriteFault, Memory};
-ghost use Rattle.dd_session.specs.Asking.{HeaderTaken};
+ghost use Rattle.dd_session.specs.Asking.{HeaderWritten};
 ghost use Rattle.dd_session.specs.writing.Faults.{HasSinkCause};
 ghost use Rattle.dd_session.specs.writing.Forms.{text_in};
 ghost use Rattle.dd_session.specs.Written.{Answered, AnsweredFront, AnsweredToEnd, AnsweredShort, WholeOutput, CutShort};
@@ -23,7 +23,7 @@ use dd_query::Query;
 use dd_script::Script;
 use std::alloc::{AllocError, Global};
 
-/// Why a call that writes answers, or the verdicts of a check, failed.
+/// Why answers, or the verdicts of a check, couldn't be written.
 #[derive(Clone, Copy, Debug, PartialEq, Eq)]
 pub(crate) enum RunFault {
     /// The sink failed.
@@ -173,7 +173,7 @@ pub(crate) fn run_script<K: Sink, E: Engine>(
     ensures cut { OnErr result (CutShort (K.held sink.old) (K.held sink.new) bytes.now script.now) }
     ensures faults { HasSinkCause (K.faults sink.old) (K.faults sink.new) result }
     ensures engines { AreEngaged (AsksSomeBoxes script.now script.now.queries) (roster_seen E.asked E.given E.sound roster.old) (roster_seen E.asked E.given E.sound roster.new) result }
-    ensures late { (roster.new ≡ roster.old) ⊎ HeaderTaken (K.held sink.old) (K.held sink.new) bytes.now }
+    ensures late { (roster.new ≡ roster.old) ⊎ HeaderWritten (K.held sink.old) (K.held sink.new) bytes.now }
 {
     // Brings in a law: if no engine is asked, the roster keeps its engines.
     kept_is_reflexive();

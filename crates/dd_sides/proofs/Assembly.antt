@@ -1,4 +1,4 @@
--- A certified bound holds over every box: the row of each position's surroundings holds, and these rows are summed.
+-- A certified bound holds over every box: for each position of the box, the row for the filling of its ground holds, and these rows are summed.
 use Rattle.std.proofs.Common.{◌≡◌, ◌<◌, ◌+◌, ◌-◌, ◌*◌, ◌^◌, ◌≤◌, ℕ, Bool, true, false, List, [], ◌∷◌, length, get_or, map, take, drop, refl, sym, ap, subst, ◌∙◌, arith}
 use Rattle.std.proofs.lemmas.{Bool.and_parts, Bool.and_from, Bool.lt-ltb, Bool.Decides.Decides-int_eq, Int.ints}
 use Rattle.std.proofs.lemmas.List.{get_or_default, Elements.All-contains, Folds.flat_map-map}

@@ -23,7 +23,8 @@ abbrev pub received : List Gift → Place → ℕ
 received [] p = 0
 received (g ∷ gs) p = g.give (seen_from g.along p) + received gs p
 
--- an upper bound for what comes in from outside: for each vector, the upper bound `most` times the number of positions that receive from outside
+-- an upper bound for what comes in from outside: the sum, over the vectors, of the upper bound `most` times the number of positions that receive from
+-- outside
 abbrev pub comes_in : Size → List Gift → ℕ
 comes_in s [] = 0
 comes_in s (g ∷ gs) = g.most * (size_volume s - kept s g.along) + comes_in s gs

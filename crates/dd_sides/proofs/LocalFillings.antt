@@ -8,7 +8,7 @@ use Rattle.dd_pattern.specs.{Reading.Look, Weight.total_weight}
 use Rattle.dd_expansion.specs.{Placed.is_flat, lemmas.Placed.flat_moved}
 use Rattle.dd_formula.specs.{LocalRule.LocalRule, LocalRule.IsRule, LocalRule.rule_allows, LocalRule.reads_at, Allowed.AreAllowed}
 use Rattle.dd_formula.specs.lemmas.AllowedLaws.{allowed_below}
-use Rattle.dd_boxes.specs.Fillings.{place_fits, Admissible}
+use Rattle.dd_boxes.specs.Fillings.{rule_fits, Admissible}
 use Rattle.dd_boxes.specs.lemmas.RuleLaws.{from_place, shifted_twice, moved_from_origin, reads_given, keeps_at, list_all_weaker}
 use Rattle.dd_boxes.specs.Boxes.{origin}
 use Rattle.dd_rows.specs.{Fillings.look_of, Fillings.words, Fillings.fillings, Laws.AreCellsOf, Patterns.pattern_at, Programs.origin_weight}
@@ -50,8 +50,8 @@ near_some : (cs : List Cell) (look : Look) (p u : Place) → HasAll cs look p �
     is_some (from_place look (moved u p) c) ≡ true
 near_some cs look p u all c h = ap is_some (sym (near cs look p u all c h)) ∙ h
 
-shown_fits : (x : LocalRule) (cs : List Cell) (look : Look) (p u : Place) (a : ℕ) → HasAll cs look p → place_fits x (shown cs look p) (cell u a) ≡ true →
-    place_fits x look (cell (moved u p) a) ≡ true
+shown_fits : (x : LocalRule) (cs : List Cell) (look : Look) (p u : Place) (a : ℕ) → HasAll cs look p → rule_fits x (shown cs look p) (cell u a) ≡ true →
+    rule_fits x look (cell (moved u p) a) ≡ true
 shown_fits x cs look p u a all h =
     let less = shown cs look p in
     let both = and_parts (is_some (less (cell u a))) (reads_given x less u a) h in

@@ -1,5 +1,5 @@
--- Side(n), the box of side n, moved to a position of Z^d, and its weight; the box grown along each active axis, and fillings of
--- the grown box. Side(n) has n consecutive coordinates on each active axis, and only 0 on the others. The first d axes are active.
+-- Side(n), the box of side n, moved to a position of Z^d, and its weight; the box grown along each active axis, and fillings of the grown box.
+-- Side(n) has the coordinates 0 to n - 1 on each active axis, and only the coordinate 0 on the others. The first d axes are active.
 use Rattle.std.specs.Prelude.{ℕ, ◌+◌, ◌≡◌, ◌↔◌, Bool, true, ◌&&◌, cond, is_some, nat_lt, int_le, int_lt, ℤ, pos, ◌+ℤ◌, ◌-ℤ◌, unwrap_or, List, map}
 use Rattle.std.specs.{List.range_with_len, Ordering.int_eq}
 use Rattle.dd_lattice.specs.{Place.Place, Cells.cell, Boxes.is_active, Boxes.IsInSide, Boxes.IsCentred, Regions.seen_from}

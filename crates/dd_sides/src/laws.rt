@@ -35,8 +35,8 @@ pub fn boundary_count()
 {}
 
 /// Does nothing; its contract says that a certified bound holds over every box, of any side length and at any position. Grow
-/// the box by `reach_of`: how far the ground of a position reaches from it. In each admissible filling of the grown box, the
-/// box weighs at least the bound times the number of its positions, less what it may receive from outside.
+/// the box by `reach_of`, which says how far the ground of a position reaches from that position. In each admissible filling of
+/// the grown box, the box weighs at least the bound times the number of its positions, less what it may receive from outside.
 pub fn bound_holds()
     ensures { (x : LocalRule) (ws : List ℕ) (radius margin : ℕ) (vs : List Place) (b : Bound) → IsRule x → AreVectors x.dimension vs →
         IsBoundCertificate x ws radius margin vs b → HoldsOnSides x ws radius margin vs b }

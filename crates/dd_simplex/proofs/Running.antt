@@ -10,7 +10,7 @@ use Rattle.dd_simplex.specs.Dictionaries.{Dictionary, count, start_dictionary, p
 use Rattle.dd_simplex.specs.Runs.{is_over, entering, leaving, does_iteration_fit, do_ratios_fit, Ends, Overflows, AtLimit, iteration, iterate_or_end, run, stop_of, RunEnds, column_of, dual_of}
 use Rattle.dd_simplex.specs.table.Lines.{Table, line_at, other_at, changed_table}
 use Rattle.dd_simplex.specs.table.{Choices.HasMisfit, Standing.IsTable, Standing.StandsFor}
-use Rattle.dd_simplex.specs.table.Steps.{DoesEnter, DoesLeave, HasIterated, HasLeft, IsStuck, IsStart}
+use Rattle.dd_simplex.specs.table.Steps.{DoesEnter, DoesLeave, HasIterated, HasPivotMisfit, IsStuck, IsStart}
 use Rattle.dd_simplex.specs.table.Values.{column_so_far, dual_so_far, GiveColumns, GiveDuals}
 use Rattle.dd_simplex.proofs.{Endings.is_best, Places.lines_size, PivotStanding.pivot_stands, PivotStanding.pivot_table}
 use Rattle.dd_simplex.proofs.PivotTests.{table_stands}
@@ -135,7 +135,7 @@ along_stuck p k left t g a h = ⊎_elim ratio (λ s. ⊎_elim none misfit s) h.r
     none : DoesLeave t h.place None → stop_of p k ≡ Overflows
     none m = absurd (is_limited p d (other_at t.others h.place) g a.reached (entering_is n d (other_at t.others h.place) enters) (unlimited_stands n t d a.table a.stands h.place inside m))
 
-    misfit : HasLeft t h.place → stop_of p k ≡ Overflows
+    misfit : HasPivotMisfit t h.place → stop_of p k ≡ Overflows
     misfit m =
         let line : m.line < length t.lines = m.leaves.0 in
         let E = other_at t.others h.place in

@@ -150,5 +150,5 @@ module _ (n : ℕ) (t : Table) (d : Dictionary) (k : IsTable t) (s : StandsFor n
 
     pub misfit_stands : HasMisfit t.lines e → do_ratios_fit n d (other_at t.others e) ≡ false
     misfit_stands h =
-        all_false (λ v. not (is_limiting d (other_at t.others e) v) || does_quotient_fit (d.bound v) (d.entry v (other_at t.others e))) n (line_at t.lines h.place).basic (s.basic_in h.place h.within)
-        (rw (limits_here h.place h.within h.limit) ((λ z. does_quotient_fit (s.bounds h.place h.within z) (s.entries h.place e h.within inside z)) ∙ h.misfit))
+        all_false (λ v. not (is_limiting d (other_at t.others e) v) || does_quotient_fit (d.bound v) (d.entry v (other_at t.others e))) n (line_at t.lines h.line).basic (s.basic_in h.line h.within)
+        (rw (limits_here h.line h.within h.limit) ((λ z. does_quotient_fit (s.bounds h.line h.within z) (s.entries h.line e h.within inside z)) ∙ h.misfit))

@@ -12,7 +12,8 @@ pub record DoesEnd (p : LinearProgram) (k : ℕ) : Type 0 where
   pub duals : List Exact
   pub ends : RunEnds p k value columns duals
 
--- a run does exactly one of three things: it ends, overflows or reaches its limit. It ends with at most one result.
+-- exactly one of three things happens in a run: it ends, it overflows, or a variable may still enter after k pivots. A run ends with at most one
+-- result.
 pub record HasOneStop (p : LinearProgram) (k : ℕ) : Type 0 where
   pub stops : DoesEnd p k ⊎ (RunOverflows p k ⊎ RunPivots p k)
   pub end_alone : DoesEnd p k → RunOverflows p k ⊎ RunPivots p k → ⊥

@@ -67,7 +67,7 @@ abbrev pub do_ratios_fit : ℕ → Dictionary → ℕ → Bool
 do_ratios_fit n d e = all_below (λ v. not (is_limiting d e v) || does_quotient_fit (d.bound v) (d.entry v e)) n
 
 -- Whether the numbers of the entering variable's row fit. This row is the row of r divided by its entry at e. Before the division, r has the
--- coefficient 1 in it. The quotient of this 1 is tested at w = e, since r takes the place of e.
+-- coefficient 1 in it. At w = e, the test is of this 1 divided by the entry, since r takes the place of e.
 abbrev pub does_row_fit : ℕ → Dictionary → ℕ → ℕ → Bool
 does_row_fit n d e r =
     does_quotient_fit (d.bound r) (d.entry r e)
@@ -149,7 +149,7 @@ pub record RunEnds (p : LinearProgram) (k : ℕ) (value : Exact) (columns duals 
 abbrev pub RunOverflows : LinearProgram → ℕ → Type 0
 RunOverflows p k = stop_of p k ≡ Overflows
 
--- the run reaches its limit of pivots
+-- after k pivots, a variable may still enter
 abbrev pub RunPivots : LinearProgram → ℕ → Type 0
 RunPivots p k = stop_of p k ≡ AtLimit
 

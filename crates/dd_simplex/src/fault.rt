@@ -9,10 +9,10 @@ use thiserror::Error;
 #[derive(Clone, Copy, Debug, PartialEq, Eq, Error)]
 pub enum SimplexFault {
     /// An intermediate number of the run is greater than 2^127 - 1 in absolute value.
-    #[error("a number of the simplex run exceeds 127 bits")]
+    #[error("an intermediate number in the simplex run exceeds 127 bits")]
     Overflow,
     /// A variable may still enter after as many pivots as the limit allows.
-    #[error("the simplex run exceeds its limit of pivots")]
+    #[error("the simplex run needs more pivots than its limit allows")]
     Pivots,
     /// Memory ran out.
     #[error("out of memory")]

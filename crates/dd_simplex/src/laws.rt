@@ -1,11 +1,11 @@
-//! Laws of the simplex method, as contracts of calls that do nothing.
+//! Laws of the simplex method, as contracts of functions that do nothing.
 ghost use Rattle.dd_simplex.specs.Laws.{HasOneStop, AreSoundDictionaries};
 
 use crate::program::Program;
 
 /// Does nothing; its contract says that a run of the program with at most `_pivots` pivots stops in exactly one of three ways:
-/// it ends with a result, an intermediate number is greater than 2^127 - 1 in absolute value, or the run reaches its limit of
-/// pivots. It ends with at most one result.
+/// it ends with a result, an intermediate number is greater than 2^127 - 1 in absolute value, or a variable may still enter
+/// after the last pivot that is allowed. The run ends with at most one result.
 pub fn one_stop(_program: &Program, _pivots: u32)
     ensures { HasOneStop _program.now _pivots }
 {
@@ -13,7 +13,7 @@ pub fn one_stop(_program: &Program, _pivots: u32)
     let _columns = _program.columns();
 }
 
-/// Does nothing; its contract is about the dictionaries of a run that has no limit on its pivots and its numbers. Their rows,
+/// Does nothing; its contract is about the dictionaries of a run that has no limit on its pivots or its numbers. Their rows,
 /// which are the equations of the basic variables, are linear combinations of the program's rows. Their objective is column 0,
 /// less such a combination. No bound of a basic variable falls below 0. Whenever a variable enters, another leaves, so no run
 /// finds column 0 unbounded.

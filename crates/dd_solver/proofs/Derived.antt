@@ -1,4 +1,4 @@
--- Each learned step is right, given the steps before it, and later steps may use its clause as a hint. After it the trail is still right, and the
+-- Each learned step is right, given the steps before it, and hints of later steps may name its clause. After it the trail is still right, and the
 -- variables of the known clauses are still in range. If the last step's clause is empty, the steps refute the clauses.
 use Rattle.std.proofs.Common.{◌≡◌, ℕ, suc, Bool, true, ◌&&◌, List, [], ◌∷◌, ◌++◌, Option, Some, None, refl, ◌∙◌, subst, length, get_or, take, inl, inr}
 use Rattle.std.proofs.lemmas.{Bool.and_parts, Bool.and_from, Bool.or_right, Bool.leb-true}

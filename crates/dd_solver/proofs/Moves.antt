@@ -1,5 +1,6 @@
--- Each move of the search keeps its invariant. A move adds an entry, cuts the trail, or adds a learned step. Propagation adds its entries in
--- `dd_trail`. There, `Extends` says that the trail stays right. At the end, if no clause is falsified, the values of a full trail satisfy the clauses.
+-- Each move preserves the invariant of the search. A move adds an entry, cuts the trail, or adds a learned step. Propagation adds its entries in
+-- `dd_trail`. There, `Extends` says that the trail stays right. At the end, if no clause is falsified, the values of a full trail satisfy the
+-- clauses.
 use Rattle.std.proofs.Common.{◌≡◌, ℕ, suc, ◌+◌, ◌≤◌, Bool, true, false, not, List, [], ◌∷◌, ◌++◌, Option, Some, None, refl, ap, sym, ◌∙◌, subst, length, get_or, take, inl, inr, arith}
 use Rattle.std.proofs.lemmas.Bool.{and_parts, false≢true, true_from_ne_false}
 use Rattle.std.proofs.lemmas.List.{length-append, length-replicate, append-nil}

@@ -19,7 +19,7 @@ all_at (c ∷ cs) (suc k) = all_at cs k
 pub in_list : (cs : List (List Literal)) (k : ℕ) (c : List Literal) → slice_get cs k ≡ Some c → clause_of (all_known cs) (suc k) ≡ Some c
 in_list cs k c g = all_at cs k ∙ g
 
--- what holds for each clause of a list holds for the clause with any number
+-- what holds for each clause of a list holds for the clause with a given number
 pub holds_of_clause : (P : List Literal → Type 0) (cs : List (List Literal)) (n : ℕ) (c : List Literal) → All P cs → clause_of (all_known cs) n ≡ Some c → P c
 holds_of_clause P cs zero c a h = absurd (cc)
 holds_of_clause P cs (suc k) c a h =

@@ -34,7 +34,7 @@ number_rises-return zero ds es h = absurd (omega arith)
 number_rises-return (suc n) [] es h = omega (arith, positive n, number_below n es)
 number_rises-return (suc n) (x ∷ ds) es h = omega (arith, number_rises-return n ds es (omega arith))
 
--- a trail's number is at least that of each trail with which it begins
+-- a trail's number is at least that of each of its prefixes
 number_front : (n k : ℕ) (ds : List Bool) → trail_number n (take k ds) ≤ trail_number n ds
 unfolding trail_number
 number_front n zero ds = omega arith

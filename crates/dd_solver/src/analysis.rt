@@ -313,8 +313,8 @@ fn bump_reasons(
     }
 }
 
-/// Makes the variables of the learned clause more active once again. Then does the same for the variables of the clauses that
-/// forced them, once for each variable, unless it is fixed.
+/// Makes the variables of the learned clause more active once again. Then looks at the clauses that forced their values: each
+/// variable of these clauses becomes more active once, unless it is fixed.
 fn bump_again(
     order: &mut Order,
     database: &Database,

@@ -29,8 +29,8 @@ const KEPT_LEVELS: u32 = 2;
 const KEPT_LENGTH: usize = 2;
 
 /// A learned clause that may be deleted. One candidate comes before another if it has fewer levels. If both have equally many
-/// levels, the shorter one comes first, and if they are also equally long, the newer one. The half that comes first is kept; of
-/// an odd number of candidates, one fewer is kept than is deleted.
+/// levels, the shorter one comes first, and if they are also equally long, the newer one. The half that comes first is kept; if
+/// the number of candidates is odd, the middle one is deleted too.
 #[derive(Clone, Copy, PartialEq, Eq, PartialOrd, Ord)]
 struct Candidate {
     levels: u32,
@@ -155,8 +155,8 @@ impl Deletion {
         self.levels.get(place).copied()
     }
 
-    /// In the selective style (see `Style`), makes some of these variables more active: those whose values were forced, at or
-    /// after the last decision, by a learned clause that has fewer levels than the one noted last (Audemard and Simon 2009).
+    /// In the selective style (see `Style`), makes some of these variables more active: those whose values were forced after
+    /// the last decision by a learned clause that has fewer levels than the one noted last (Audemard and Simon 2009).
     pub(crate) fn bump_selected(
         &self,
         order: &mut Order,

@@ -1,4 +1,4 @@
-//! The search (Marques-Silva and Sakallah 1999, Eén and Sörensson 2003). It goes in rounds. Each round begins with propagation:
+//! The search (Marques-Silva and Sakallah 1999, Eén and Sörensson 2003). It runs in rounds. Each round begins with propagation:
 //! forced literals are made true. If this leads to a conflict, the search learns a clause. If the clause is empty, the steps
 //! are a refutation. If not, a backjump follows. If there is no conflict, the search decides a variable, that is, it chooses a
 //! value for the variable. If each variable has a value already, these values satisfy the clauses.

@@ -22,7 +22,7 @@ pub fn one_refusal()
     tree_or_fault();
 }
 
-/// Does nothing. Its contract says that bytes either spell a script or are refused, and never both.
+/// Does nothing. Its contract says that bytes either spell a script or are refused, but never both.
 pub fn spelled_or_refused()
     ensures never_both { (bytes : List ℕ) (s : Parts) (n : ℕ) (k : RefusalKind) → Spells bytes s → RefusedAs bytes n k → ⊥ }
     ensures either { (bytes : List ℕ) → ((s : Parts) × Spells bytes s) ⊎ ((n : ℕ) × (k : RefusalKind) × RefusedAs bytes n k) }

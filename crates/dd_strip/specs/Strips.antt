@@ -48,7 +48,7 @@ pub record IsStrip (r : LocalRule) (periods : List ℕ) : Type 0 where
   pub y_unused : r.dimension < 2 → slice_index periods 0 ≡ 1
   pub z_unused : r.dimension < 3 → slice_index periods 1 ≡ 1
 
--- there is one weight for each symbol, and each weight is at most most_weight
+-- there is one weight for each symbol, and no weight exceeds `most_weight`
 pub record HasWeights (r : LocalRule) (weights : List ℕ) : Type 0 where
   pub each : length weights ≡ r.symbols
   pub small : All (λ w. w ≤ most_weight) weights

@@ -11,9 +11,9 @@ use Rattle.dd_pattern.specs.{declared.periods.Periods.Periods, Periods.residue, 
 use Rattle.dd_pattern.specs.{Tile.Tile, Tile.IsTile, Tile.tile, Tile.tile_index, Tile.tile_look, Weight.total_weight}
 use Rattle.dd_pattern.specs.lemmas.Residues.{residue_below, residue_small}
 use Rattle.dd_formula.specs.LocalRule.{LocalRule, IsRule, rule_allows}
-use Rattle.dd_counts.specs.Rules.{slices, state_length}
+use Rattle.dd_counts.specs.Rules.{slice_fillings, state_length}
 use Rattle.dd_strip.specs.{declared.strip.Strip.Strip, Strips.IsFor, Strips.cells, Strips.positions}
-use Rattle.dd_transfer.specs.{Windows.IsWindow, Windows.digits, Windows.stand, Transfers.slice_weight}
+use Rattle.dd_transfer.specs.{Windows.IsKeptWindow, Windows.digits, Windows.stand, Transfers.slice_weight}
 use Rattle.dd_transfer.specs.Certificates.{IsClosedWalk, last_slice, walk_weight}
 use Rattle.dd_transfer.specs.Slices.{IsKeptFrom, cell_from, symbols_from, number_with_digits, slices_from, window_from}
 use Rattle.dd_transfer.specs.Laws.{AreDigits, AreEdgesOf}
@@ -125,12 +125,12 @@ module _ (r : LocalRule) (s : Strip) (walk : List ℕ) (rule : IsRule r) (for : 
     back : (x : ℤ) → ((x -ℤ pos 1) +ℤ pos 1) ≡ x
     back x = omega (arith, ints)
 
-    last_below : (x : ℤ) → last_slice r s (state_at r s walk x) < slices r (positions s)
-    last_below x = subst (λ (z : ℤ). last_slice r s (state_at r s walk z) < slices r (positions s)) (back x) (step_at (x -ℤ pos 1)).slice
+    last_below : (x : ℤ) → last_slice r s (state_at r s walk x) < slice_fillings r (positions s)
+    last_below x = subst (λ (z : ℤ). last_slice r s (state_at r s walk z) < slice_fillings r (positions s)) (back x) (step_at (x -ℤ pos 1)).slice
 
     slice_there : (x : ℤ) → slices_from r s (tile_look (tile_of r s walk)) x 1 ≡ last_slice r s (state_at r s walk x)
     slice_there x =
-        let power : slices r (positions s) ≡ r.symbols ^ cells s = ap (λ (n : ℕ). r.symbols ^ (n * positions s)) (sym for.nodes) in
+        let power : slice_fillings r (positions s) ≡ r.symbols ^ cells s = ap (λ (n : ℕ). r.symbols ^ (n * positions s)) (sym for.nodes) in
         ap (number_with_digits r.symbols) (symbols_there x) ∙ numbers.number_is (cells s) (last_slice r s (state_at r s walk x)) (omega (arith, last_below x, power))
 
     none_there : (x : ℤ) → slices_from r s (tile_look (tile_of r s walk)) x 0 ≡ 0
@@ -143,11 +143,11 @@ module _ (r : LocalRule) (s : Strip) (walk : List ℕ) (rule : IsRule r) (for : 
     one_further x n = omega (arith, ints)
 
     -- the n slices after the one at x are the last n slices of the walk's state at x + n, if a state has at least n slices
-    slices_there : (x : ℤ) (n : ℕ) → n ≤ state_length r → slices_from r s (tile_look (tile_of r s walk)) (x +ℤ pos 1) n ≡ state_at r s walk (x +ℤ pos n) % slices r (positions s) ^ n
-    slices_there x zero le = none_there (x +ℤ pos 1) ∙ sym (mod_of_none (state_at r s walk (x +ℤ pos 0)) (slices r (positions s)))
+    slices_there : (x : ℤ) (n : ℕ) → n ≤ state_length r → slices_from r s (tile_look (tile_of r s walk)) (x +ℤ pos 1) n ≡ state_at r s walk (x +ℤ pos n) % slice_fillings r (positions s) ^ n
+    slices_there x zero le = none_there (x +ℤ pos 1) ∙ sym (mod_of_none (state_at r s walk (x +ℤ pos 0)) (slice_fillings r (positions s)))
     slices_there x (suc n) le =
         let look = tile_look (tile_of r s walk) in
-        let m = slices r (positions s) in
+        let m = slice_fillings r (positions s) in
         let u = state_at r s walk (x +ℤ pos n) in
         let v = state_at r s walk (x +ℤ pos (suc n)) in
         let t = last_slice r s v in
@@ -164,11 +164,11 @@ module _ (r : LocalRule) (s : Strip) (walk : List ℕ) (rule : IsRule r) (for : 
         positive m n lt = one-le-pow n m (omega arith)
 
     -- so the window that begins at x + 1 is that of an edge of the walk: the edge from the state at x + W, where W is `state_length`
-    window_there : (x : ℤ) → IsWindow r s (window_from r s (tile_look (tile_of r s walk)) (x +ℤ pos 1))
+    window_there : (x : ℤ) → IsKeptWindow r s (window_from r s (tile_look (tile_of r s walk)) (x +ℤ pos 1))
     window_there x =
         let look = tile_look (tile_of r s walk) in
         let w = state_length r in
-        let m = slices r (positions s) in
+        let m = slice_fillings r (positions s) in
         let u = state_at r s walk (x +ℤ pos w) in
         let v = state_at r s walk (x +ℤ pos (suc w)) in
         let f : Follows r s u v = subst (λ (z : ℤ). Follows r s u (state_at r s walk z)) (one_further x w) (step_at (x +ℤ pos w)) in
@@ -176,7 +176,7 @@ module _ (r : LocalRule) (s : Strip) (walk : List ℕ) (rule : IsRule r) (for : 
         let here : slices_from r s look ((x +ℤ pos 1) +ℤ pos w) 1 ≡ last_slice r s v = ap (λ (z : ℤ). slices_from r s look z 1) (further x w) ∙ slice_there (x +ℤ pos (suc w)) in
         let is : window_from r s look (x +ℤ pos 1) ≡ u * m + last_slice r s v =
         edges.longer (x +ℤ pos 1) w ∙ (ap (λ (k : ℕ). k * m + slices_from r s look ((x +ℤ pos 1) +ℤ pos w) 1) state ∙ ap (λ (k : ℕ). u * m + k) here) in
-        subst (IsWindow r s) (sym is) f.is_window
+        subst (IsKeptWindow r s) (sym is) f.is_window
 
     kept_there : (x : ℤ) → IsKeptFrom r (tile_look (tile_of r s walk)) x
     kept_there x =

@@ -8,8 +8,8 @@ use Rattle.dd_expansion.specs.Limits.{greatest}
 use Rattle.dd_strip.specs.{declared.strip.Strip.Strip, Strips.IsFor, Strips.positions, Strips.IsStrip, Strips.strip_for}
 use Rattle.dd_transfer.specs.Certificates.{AreStripPotentials, IsDensityCertificate, IsEmptyCertificate, potential_of, walk_weight}
 use Rattle.dd_transfer.specs.{Slices.RepeatsAcross, Slices.state_from, Slices.number_with_digits, Laws.AreDigits, Laws.AreEdgesOf}
-use Rattle.dd_strips.specs.Strips.{IsAdmissibleStrip, LivesOnStrip, LivesNowhere, slices_weight, tile_weight}
-use Rattle.dd_strips.specs.Claims.{IsHeavy, IsShortStrip, StripLeast, StripEmpty, spread_of}
+use Rattle.dd_strips.specs.Strips.{IsAdmissibleStripFilling, LivesOnStrip, LivesNowhere, slices_weight, tile_weight}
+use Rattle.dd_strips.specs.Claims.{IsHeavy, HasShortFillings, StripLeast, StripEmpty, spread_of}
 use Rattle.dd_strips.proofs.{Walks.IsStep, Walks.walk_weighs, Walks.walk_is_heavy, Walks.walk_is_short, Fillings.filling_steps}
 use Rattle.dd_strips.proofs.Tiles.{IsOnStrip, tile_repeats, tile_has, symbols_round, period_weighs}
 use Rattle.dd_strips.proofs.Cycles.{tile_of, on_strip, lives_on_strip, cycle_weighs}
@@ -68,14 +68,14 @@ module _ (r : LocalRule) (s : Strip) (rule : IsRule r) (for : IsFor r s) (edges 
       let e = edges look strip.filling.repeats in
       walk_is_heavy r s look e ws m l ps potentials x j (filling_steps r s look rule e x j strip)
 
-  pub fillings_short : (ranks : List ℕ) → IsEmptyCertificate r s ranks → IsShortStrip r s (greatest ranks + state_length r)
+  pub fillings_short : (ranks : List ℕ) → IsEmptyCertificate r s ranks → HasShortFillings r s (greatest ranks + state_length r)
   fillings_short ranks falls n x look strip = elim (cases_lt n (state_length r)) [
     | inl less ↦ omega arith
     | inr more ↦
         let j = n - state_length r in
         let is : n ≡ j + state_length r = omega arith in
         let e = edges look strip.filling.repeats in
-        let short : j ≤ greatest ranks = walk_is_short r s look e ranks falls x j (filling_steps r s look rule e x j (subst (λ (k : ℕ). IsAdmissibleStrip r s x k look) is strip)) in
+        let short : j ≤ greatest ranks = walk_is_short r s look e ranks falls x j (filling_steps r s look rule e x j (subst (λ (k : ℕ). IsAdmissibleStripFilling r s x k look) is strip)) in
         omega (arith, short, is)
   ]
 

@@ -1,4 +1,4 @@
--- The least and the greatest of a list.
+-- The least and the greatest potential in a list.
 use Rattle.std.proofs.Common.{ℕ, zero, suc, ◌<◌, ◌≤◌, List, [], ◌∷◌, length, get_or, ℤ, pos, ◌≤ℤ◌, arith}
 use Rattle.std.proofs.lemmas.Int.{ints}
 use Rattle.std.specs.{Int.int_min, Int.int_max, List.fold}

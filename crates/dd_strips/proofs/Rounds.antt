@@ -7,9 +7,9 @@ use Rattle.std.proofs.lemmas.Nat.{mod-mul-add}
 use Rattle.std.specs.Prelude.{slice_index}
 use Rattle.dd_pattern.specs.{Periods.residue, lemmas.Residues.residue_below}
 use Rattle.dd_formula.specs.LocalRule.{LocalRule}
-use Rattle.dd_counts.specs.Rules.{slices, states, state_length}
+use Rattle.dd_counts.specs.Rules.{slice_fillings, states, state_length}
 use Rattle.dd_strip.specs.{declared.strip.Strip.Strip, Strips.positions}
-use Rattle.dd_transfer.specs.{Windows.IsWindow, Transfers.IsEdge, Certificates.IsWalk, Certificates.IsClosedWalk, Certificates.last_slice}
+use Rattle.dd_transfer.specs.{Windows.IsKeptWindow, Transfers.IsEdge, Certificates.IsWalk, Certificates.IsClosedWalk, Certificates.last_slice}
 use Rattle.dd_strips.proofs.{Residues.residue_next, Modular.mod_of_power}
 
 -- some edge leads from u to v
@@ -59,13 +59,13 @@ module _ (r : LocalRule) (s : Strip) where
   -- there is an edge from u to v whose slice is the last slice of v
   pub record Follows (u v : ℕ) : Type 0 where
     pub state : u < states r (positions s)
-    pub slice : last_slice r s v < slices r (positions s)
-    pub leads : v ≡ (u * slices r (positions s) + last_slice r s v) % states r (positions s)
-    pub is_window : IsWindow r s (u * slices r (positions s) + last_slice r s v)
+    pub slice : last_slice r s v < slice_fillings r (positions s)
+    pub leads : v ≡ (u * slice_fillings r (positions s) + last_slice r s v) % states r (positions s)
+    pub is_window : IsKeptWindow r s (u * slice_fillings r (positions s) + last_slice r s v)
 
   pub follows : (u v : ℕ) → IsJoined r s u v → Follows u v
   follows u v j =
-      let m = slices r (positions s) in
+      let m = slice_fillings r (positions s) in
       let w = state_length r in
       let t = j.slice in
       let e = j.edge in
@@ -79,7 +79,7 @@ module _ (r : LocalRule) (s : Strip) where
         state = e.state;
         slice = omega (arith, last, e.slice);
         leads = e.leads ∙ ap (λ (n : ℕ). (u * m + n) % states r (positions s)) (sym last);
-        is_window = subst (λ (n : ℕ). IsWindow r s (u * m + n)) (sym last) e.is_window;
+        is_window = subst (λ (n : ℕ). IsKeptWindow r s (u * m + n)) (sym last) e.is_window;
       }
     where
       power_one : (m : ℕ) → m ^ 1 ≡ m

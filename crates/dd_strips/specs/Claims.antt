@@ -5,12 +5,12 @@ use Rattle.dd_pattern.specs.Reading.{Look}
 use Rattle.dd_formula.specs.LocalRule.{LocalRule}
 use Rattle.dd_counts.specs.Rules.{state_length}
 use Rattle.dd_strip.specs.declared.strip.Strip.{Strip}
-use Rattle.dd_strips.specs.Strips.{IsAdmissibleStrip, slices_weight, IsLeastDensity, LivesNowhere}
+use Rattle.dd_strips.specs.Strips.{IsAdmissibleStripFilling, slices_weight, IsLeastDensity, LivesNowhere}
 
--- in an admissible filling with j slices more than a state has, l times the weight of the last j slices is at least m * j - spread
+-- in an admissible filling with j more slices than a state has, l times the weight of the last j slices is at least m * j - spread
 abbrev pub IsHeavy : LocalRule → Strip → List ℕ → ℕ → ℕ → ℕ → Type 0
 IsHeavy r s ws m l spread =
-    (j : ℕ) (x : ℤ) (look : Look) → IsAdmissibleStrip r s x (j + state_length r) look → m * j ≤ l * slices_weight s ws look (x +ℤ pos (state_length r)) j + spread
+    (j : ℕ) (x : ℤ) (look : Look) → IsAdmissibleStripFilling r s x (j + state_length r) look → m * j ≤ l * slices_weight s ws look (x +ℤ pos (state_length r)) j + spread
 
 -- the least density of the strip is p / q, and admissible fillings weigh at least what IsHeavy says
 pub record StripLeast (r : LocalRule) (s : Strip) (ws : List ℕ) (p q l m spread : ℕ) : Type 0 where
@@ -18,12 +18,12 @@ pub record StripLeast (r : LocalRule) (s : Strip) (ws : List ℕ) (p q l m sprea
   pub heavy : IsHeavy r s ws m l spread
 
 -- no admissible filling of the strip has more than k slices
-abbrev pub IsShortStrip : LocalRule → Strip → ℕ → Type 0
-IsShortStrip r s k = (n : ℕ) (x : ℤ) (look : Look) → IsAdmissibleStrip r s x n look → n ≤ k
+abbrev pub HasShortFillings : LocalRule → Strip → ℕ → Type 0
+HasShortFillings r s k = (n : ℕ) (x : ℤ) (look : Look) → IsAdmissibleStripFilling r s x n look → n ≤ k
 
 -- no admissible filling has more than k slices, and no configuration lives on the strip
 pub record StripEmpty (r : LocalRule) (s : Strip) (k : ℕ) : Type 0 where
-  pub short : IsShortStrip r s k
+  pub short : HasShortFillings r s k
   pub nowhere : LivesNowhere r s
 
 abbrev pub least_potential : List ℤ → ℤ

@@ -13,15 +13,15 @@ use Rattle.dd_transfer.specs.Slices.{RepeatsAcross, symbols_from}
 abbrev pub is_slice_cell : LocalRule → ℤ → ℕ → Cell → Bool
 is_slice_cell r x k c = int_le x c.position.x && int_lt c.position.x (x +ℤ pos k) && nat_lt c.node r.nodes
 
--- A filling of the k slices of the strip from x on: exactly their cells have symbols, and these are allowed. The filling repeats with the strip's
--- periods along the axes after the first.
+-- A filling of the k slices of the strip from x on: their cells, and no others, have symbols, and these symbols are allowed. The filling repeats with
+-- the strip's periods along the axes after the first.
 pub record IsStripFilling (r : LocalRule) (s : Strip) (x : ℤ) (k : ℕ) (look : Look) : Type 0 where
   pub domain : (c : Cell) → is_some (look c) ≡ is_slice_cell r x k c
   pub repeats : RepeatsAcross s look
   pub allowed : AreAllowed r look
 
--- an admissible filling: the rule is true at each cell such that this cell and all cells read there have symbols
-pub record IsAdmissibleStrip (r : LocalRule) (s : Strip) (x : ℤ) (k : ℕ) (look : Look) : Type 0 where
+-- an admissible filling: the rule is true at each cell where it fits, that is, where the cell itself, and each cell read there, has a symbol
+pub record IsAdmissibleStripFilling (r : LocalRule) (s : Strip) (x : ℤ) (k : ℕ) (look : Look) : Type 0 where
   pub filling : IsStripFilling r s x k look
   pub admissible : Admissible r look
 

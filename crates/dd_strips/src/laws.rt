@@ -1,4 +1,4 @@
-//! The laws of strips, as contracts of calls that do nothing.
+//! The laws of strips, as contracts of functions that do nothing.
 ghost use Rattle.std.specs.Prelude.{ℕ, ℤ, List, ◌+◌, ◌≡◌};
 ghost use Rattle.std.specs.Int.{IsGcd};
 ghost use Rattle.dd_expansion.specs.Limits.{greatest};
@@ -16,9 +16,9 @@ use dd_transfer::slices_are_walks;
 /// - The walk's mean (its weight divided by its length), divided by the number of positions in a slice, is the least density
 ///   of all configurations that live on the strip. A density is a weight per position.
 /// - Let `m / l` be the mean in lowest terms, and let the spread be the difference between the greatest and the least
-///   potential. In an admissible filling with `j` slices more than a state has, the last `j` slices weigh at least
-///   `(m * j - spread) / l`. A filling is admissible if the rule is true at each cell such that this cell and all cells that
-///   the rule reads there have symbols.
+///   potential. In an admissible filling with `j` more slices than a state has, the last `j` slices weigh at least `(m * j -
+///   spread) / l`. A filling is admissible if the rule is true at each cell where it fits: where the cell itself, and each cell
+///   that the rule reads there, has a symbol.
 pub fn strip_least()
     ensures { (r : LocalRule) (periods ws : List ℕ) (p q : ℕ) (walk : List ℕ) (ps : List ℤ) → IsRule r → IsStrip r periods →
         (c : IsDensityCertificate r (strip_for r periods) ws p q walk ps) → StripLeast r (strip_for r periods) ws p q c.l c.m (spread_of ps) }

@@ -24,8 +24,8 @@ abbrev pub is_one_byte_mark : ℕ → Bool
 is_one_byte_mark b = list_any (λ s. s == b) (codes "AE%()[].=!&|~@:")
 
 -- a byte that a comment may contain: not a line feed, and at most 127
-abbrev pub is_comment : ℕ → Bool
-is_comment b = not (b == 10) && nat_le b 127
+abbrev pub is_comment_byte : ℕ → Bool
+is_comment_byte b = not (b == 10) && nat_le b 127
 
 -- whether there is a first byte and it passes the test p
 abbrev pub starts : (ℕ → Bool) → List ℕ → Bool
@@ -48,8 +48,8 @@ is_three_byte_mark b bytes = b == 60 && starts (λ c. c == 45) bytes && starts (
 -- like the bytes after it. A comment extends up to the next line feed or to the end. A byte over 127 in it isn't allowed.
 abbrev pub comment : List ℕ → Piece
 comment bytes =
-    if starts (λ b. nat_le 128 b) (drop (prefix_len is_comment bytes) bytes) then Fault (1 + prefix_len is_comment bytes)
-    else Gap (1 + prefix_len is_comment bytes)
+    if starts (λ b. nat_le 128 b) (drop (prefix_len is_comment_byte bytes) bytes) then Fault (1 + prefix_len is_comment_byte bytes)
+    else Gap (1 + prefix_len is_comment_byte bytes)
 
 -- The piece for a number, given its first digit b and the bytes after b. If b is the digit 0 and another digit follows, as in 01,
 -- then b isn't allowed.

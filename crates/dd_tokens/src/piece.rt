@@ -2,7 +2,7 @@
 ghost use Rattle.std.specs.Prelude.{◌≡◌, ◌≤◌, ◌<◌, ◌+◌, length};
 ghost use Rattle.std.specs.List.{prefix_len};
 ghost use Rattle.dd_values.specs.Bounds.{most_script};
-ghost use Rattle.dd_tokens.specs.Format.{is_letter, is_digit, is_comment, is_two_byte_mark, starts_positive, comment, front, first, IsPieceWithin};
+ghost use Rattle.dd_tokens.specs.Format.{is_letter, is_digit, is_comment_byte, is_two_byte_mark, starts_positive, comment, front, first, IsPieceWithin};
 
 use crate::token::TokenKind;
 
@@ -29,9 +29,9 @@ fn is_digit(byte: u8) -> bool
     byte >= b'0' && byte <= b'9'
 }
 
-/// Whether a comment may contain this byte after its first hyphen.
-fn is_comment(byte: u8) -> bool
-    ensures { result ≡ is_comment byte }
+/// Whether a comment may contain this byte.
+fn is_comment_byte(byte: u8) -> bool
+    ensures { result ≡ is_comment_byte byte }
 {
     byte != b'\n' && byte <= 127
 }
@@ -52,13 +52,16 @@ fn digits(bytes: &[u8]) -> usize
     bytes.iter().take_while(|byte| is_digit(**byte)).count()
 }
 
-/// The number of bytes before the end of a comment, or before the first byte that isn't allowed in the comment. The bytes
-/// begin after the comment's first hyphen.
+/// How many of the bytes after the first hyphen of a comment come before its end, or before the first byte that it may not
+/// contain.
 fn comment_bytes(bytes: &[u8]) -> usize
-    ensures value { result ≡ prefix_len is_comment bytes.now }
+    ensures value { result ≡ prefix_len is_comment_byte bytes.now }
     ensures within { result ≤ length bytes.now }
 {
-    bytes.iter().take_while(|byte| is_comment(**byte)).count()
+    bytes
+        .iter()
+        .take_while(|byte| is_comment_byte(**byte))
+        .count()
 }
 
 /// The piece for a comment, given the bytes after the comment's first hyphen. They begin with the second hyphen, which is

@@ -6,8 +6,8 @@ use dd_values::Items;
 pub enum TokenKind {
     /// One or more letters from `a` to `z`.
     Word,
-    /// The digit 0 alone, or one or more digits of which the first isn't 0. If a number would begin with a 0 and have further
-    /// digits, as in `01`, then this 0 isn't allowed.
+    /// The digit 0 alone, or one or more digits of which the first isn't 0. A 0 with further digits after it, as in `01`, isn't
+    /// allowed.
     Number,
     /// A `-` and, directly after it, a number other than 0.
     Negative,
@@ -15,7 +15,7 @@ pub enum TokenKind {
     Mark,
 }
 
-/// A token: its kind and its position. The bytes themselves aren't stored.
+/// A token: its kind, its position and its length. The bytes themselves aren't stored.
 #[derive(Clone, Copy, Debug, PartialEq, Eq)]
 pub struct Token {
     pub kind: TokenKind,

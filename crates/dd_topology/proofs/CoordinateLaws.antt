@@ -1,4 +1,4 @@
--- For coordinates in range, a sum is equal to a third coordinate exactly when the 32-bit words that the code compares are equal. Negating the word of
+-- For coordinates in range, the sum of two is equal to a third exactly when the 32-bit words that the code compares are equal. Negating the word of
 -- such a coordinate gives the word of the opposite coordinate. A position moved by an offset and then by the reversed offset is where it was.
 use Rattle.std.proofs.Common.{◌≡◌, ℕ, ℤ, pos, ◌+ℤ◌, ◌-ℤ◌, arith, to_z, of_z, w32, eq-eqb, ap, sym, ◌∙◌, true, false}
 use Rattle.std.proofs.lemmas.Bool.{eqb-true, false_from_ne_true, and_left, and_right, and_from}
@@ -26,7 +26,7 @@ apart x y s near near' near'' h = false_from_ne_true _ (λ e. h (same_word x y s
 joined : (x y s : ℤ) → IsCoordinateInRange x → IsCoordinateInRange y → IsCoordinateInRange s → word_sum x y ≡ of_z w32 s → int_eq (x +ℤ y) s ≡ true
 joined x y s near near' near'' h = (Decides-int_eq _ _).1 (same_coordinate x y s near near' near'' h)
 
--- p moved by `by` is compared with s axis by axis; all three positions are in range
+-- p moved by `by` is compared with s, axis by axis; all three positions are in range
 module _ (p by s : Place) (near : IsInRange p) (near' : IsInRange by) (near'' : IsInRange s) where
   pub apart_x : (word_sum p.x by.x ≡ of_z w32 s.x → ⊥) → false ≡ same_place (moved p by) s
   apart_x h = sym (and_left _ _ (and_left _ _ (apart p.x by.x s.x near.0 near'.0 near''.0 h)))

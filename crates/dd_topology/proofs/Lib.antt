@@ -2,6 +2,6 @@ pub mod MoveLaws
 pub mod CoordinateLaws
 pub mod BallLaws
 pub mod GrowthLaws
-pub mod TableLaws
+pub mod RepeatLaws
 pub mod GridLaws
 pub mod SetLaws

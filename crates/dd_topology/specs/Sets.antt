@@ -22,7 +22,7 @@ pub record IsRow (m : ℕ) (row : List Bool) : Type 0 where
   pub as_many : length row ≡ m
   pub some : list_any (λ b. b) row ≡ true
 
--- what holds of the symbol sets that n nodes allow
+-- what holds of the symbol sets of n nodes
 pub record IsSets (n : ℕ) (s : SymbolSets) : Type 0 where
   pub symbols : 1 ≤ s.symbols
   pub nodes : length s.allowed ≡ n
@@ -35,7 +35,7 @@ all_symbols nodes m = symbol_sets m (replicate nodes (replicate m true))
 abbrev pub is_listed : List ℕ → ℕ → Bool
 is_listed symbols t = list_any (λ s. s == t) symbols
 
--- the row of a node that allows exactly the listed ones of the m symbols
+-- the row of a node that allows exactly those of the m symbols that are listed
 abbrev pub symbol_row : ℕ → List ℕ → List Bool
 symbol_row m symbols = map (is_listed symbols) (range_with_len 0 m)
 

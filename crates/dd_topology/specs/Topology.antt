@@ -48,6 +48,6 @@ AreSingle es = AllPairs (λ e f. starts_alike e f ≡ false) es
 abbrev pub extent : Place → ℕ
 extent p = max (unsigned_abs p.x) (max (unsigned_abs p.y) (unsigned_abs p.z))
 
--- no edge leads further than n along an axis
+-- no edge leads more than n steps along any axis
 abbrev pub are_short : ℕ → List Edge → Bool
 are_short n es = list_all (λ e. nat_le (extent e.offset) n) es

@@ -6,7 +6,7 @@ use thiserror::Error;
 pub enum TopologyFault {
     /// Two edges have the same label and the same first node. The variant holds the label of the first edge that agrees in
     /// both with an earlier edge.
-    #[error("the label {0} has two edges from one node")]
+    #[error("two edges with the label {0} leave the same node")]
     Twice(u32),
     /// Memory ran out.
     #[error("out of memory")]

@@ -26,7 +26,7 @@ impl Model for Names {
 #[derive(Debug, Drop, Error)]
 pub enum NameFault {
     /// The name was added before.
-    #[error("the name is there already")]
+    #[error("the name is already in the list")]
     Twice(String),
     /// Memory ran out.
     #[error("out of memory")]

@@ -11,7 +11,8 @@ pub struct Sets {
     nodes: u32,
     /// How many symbols the whole alphabet has.
     symbols: u32,
-    /// For each node, a row of `symbols` entries, one row after another. Each entry says whether the node allows the symbol.
+    /// For each node, a row of `symbols` entries, one row after another. Entry s of a row says whether the node allows the
+    /// symbol s.
     allowed: Vec<bool>,
 }
 

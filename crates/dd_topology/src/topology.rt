@@ -19,16 +19,16 @@ use indexmap::IndexSet;
 use std::alloc::Global;
 use std::marker::Model;
 
-/// A move: a label, and the node from which the move leads. The move that an edge makes consists of its label and its first
-/// node. No two edges of a topology make the same move.
+/// A move: a label, and the node from which the move leads. The move of an edge consists of its label and its first node. No
+/// two edges of a topology have the same move.
 #[derive(Clone, Copy, PartialEq, Eq, Hash)]
 pub(crate) struct Move {
     label: u32,
     from: u32,
 }
 
-/// A topology: a dimension, a number of nodes at each position, labels, and edges. No two edges have both the same label
-/// and the same first node, and no edge leads further than 4 along an axis.
+/// A topology: a dimension, a number of nodes at each position, labels, and edges. No two edges have both the same label and
+/// the same first node, and no edge leads more than 4 steps along any axis.
 #[derive(Drop)]
 pub struct Topology {
     /// The dimension: 1, 2 or 3.
@@ -38,7 +38,7 @@ pub struct Topology {
     /// The names of the labels.
     labels: Names,
     edges: Items<Edge>,
-    /// The moves that the edges make. Each move has the same index here as its edge has in `edges`.
+    /// The moves of the edges. Each move has the same index here as its edge has in `edges`.
     moves: IndexSet<Move>,
 }
 
@@ -54,8 +54,8 @@ impl Model for Topology {
     ghost invariant = { λ t. IsGrid (grid t.dim t.nodes t.labels t.edges) × (t.moves.keys ≡ map move_of t.edges) };
 }
 
-/// The moves that the edges make, in the same order. The fault is `Twice` if two edges make the same move: it holds the label
-/// of the first edge that makes the same move as an earlier one. The fault is `Memory` if memory ran out first.
+/// The moves of the edges, in the same order. The fault is `Twice` if two edges have the same move: it holds the label of the
+/// first edge with the same move as an earlier one. The fault is `Memory` if memory ran out first.
 fn moves_of(alloc: Global, edges: &[Edge]) -> Result<IndexSet<Move>, TopologyFault>
     ensures moves { IfOk result (λ moves. moves.keys ≡ map move_of edges.now) }
     ensures single { OnOk result (AreSingle edges.now) }
@@ -77,9 +77,9 @@ fn moves_of(alloc: Global, edges: &[Edge]) -> Result<IndexSet<Move>, TopologyFau
 }
 
 impl Topology {
-    /// The topology of dimension `dim` with `nodes` nodes at each position, and with these labels and edges. The dimension
-    /// must be 1, 2 or 3, and there must be at least one node. The label and the nodes of each edge must exist. Each edge
-    /// must lead at most 4 along each of the first `dim` axes, and not at all along the others.
+    /// The topology of dimension `dim` with `nodes` nodes at each position, and with these labels and edges. The dimension must
+    /// be 1, 2 or 3, and there must be at least one node. The label and the nodes of each edge must exist. Each edge must lead
+    /// at most 4 steps along each of the first `dim` axes, and none along the others.
     ///
     /// # Errors
     /// `Twice` if two edges have the same label and the same first node: it holds the label of the first edge that agrees in
@@ -134,9 +134,9 @@ impl Topology {
         self.labels.find(name)
     }
 
-    /// The edges, in the order in which they were given. The contract also says that no edge leads further than 4 along an
-    /// axis. For all cells of Z^3, it says that the test `is_adjacent` is true exactly when `IsAdjacent` holds, and that
-    /// the list `ball` has exactly the cells for which `IsInBall` holds.
+    /// The edges, in the order in which they were given. The contract also says that no edge leads more than 4 steps along any
+    /// axis. It says too that, for all cells of Z^3, the test `is_adjacent` is true exactly when `IsAdjacent` holds, and the
+    /// list `ball` has exactly the cells for which `IsInBall` holds.
     pub fn edges(&self) -> &[Edge]
         ensures edges { result.now ≡ self.now.edges }
         ensures adjacent { (a : AnyCell) → (b : AnyCell) → (is_adjacent result.now a b ≡ true) ↔ IsAdjacent result.now a b }

@@ -1,4 +1,4 @@
--- The copy without the places of the clauses that are not alive. They are removed in place: what is kept moves down by the number of places removed
+-- The copy without the places of the clauses that are not alive. No second copy is made: what is kept moves down by the number of places removed
 -- before it.
 use Rattle.std.proofs.Common.{◌≡◌, ◌≢◌, ℕ, ◌+◌, ◌<◌, ◌≤◌, Bool, true, false, List, Option, refl, ap, sym, ◌∙◌, length, get_or, set, take, inl, inr, arith, get_or-set_same, get_or-set_other}
 use Rattle.std.proofs.Math.ListN.{get_or-eq_default}

@@ -1,4 +1,4 @@
-//! The parts of a search for an assignment that satisfies clauses. The trail is a list of entries, one for each literal that is
+//! Parts of a search for an assignment that satisfies clauses. The trail is a list of entries, one for each literal that is
 //! true, in the order in which the literals became true. A clause forces a literal if the literal has no value yet and all
 //! other literals of the clause are false. A clause is falsified if all of its literals are false. A falsified clause is a
 //! conflict. At a conflict, the search learns a clause: it resolves the conflict with clauses that forced literals. Then it

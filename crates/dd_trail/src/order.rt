@@ -49,10 +49,10 @@ pub enum Style {
     /// cellular automata differ.
     Focused,
     /// As in the focused style, a variable becomes more active only once in a conflict, with this exception: it becomes more
-    /// active a second time if its value was forced, at or after the last decision, by a learned clause that has fewer levels
-    /// than the new one (Audemard and Simon 2009). The levels of a clause are the different decision levels above 0 of its
-    /// literals. Each conflict adds still more than in the focused style. This style is better after many variables were
-    /// eliminated by resolution.
+    /// active a second time if its value was forced after the last decision by a learned clause that has fewer levels than the
+    /// new one (Audemard and Simon 2009). The levels of a clause are the different decision levels above 0 of its literals.
+    /// Each conflict adds still more than in the focused style. This style is better after many variables have been eliminated
+    /// by resolution.
     Selective,
 }
 
@@ -218,9 +218,9 @@ impl Order {
         Some(first)
     }
 
-    /// Takes variables out of the heap, until one has no value. Returns the literal that this variable's last value makes
-    /// true. `None` if each variable has a value. If the heap ran out first, which never happens, the literal would be the
-    /// negation of the first variable without a value.
+    /// Takes variables out of the heap, until one has no value. Returns the literal that this variable's last value makes true.
+    /// `None` if each variable has a value. If the heap ran out first, which never happens, the result would be the negative
+    /// literal of the first variable without a value.
     pub fn choose(&mut self, trail: &Trail) -> Option<Literal>
         requires { trail.now.variables < 2 ^ 32 }
         ensures { MatchOption result (IsFull trail.now.variables trail.now.entries) (λ l. IsFree trail.now.variables trail.now.entries l.variable) }

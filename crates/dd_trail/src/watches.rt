@@ -127,16 +127,17 @@ fn rewatch(
     if next == END {
         return Look::AllFalse(place);
     }
-    // The places are always of the same clause.
+    // Both places always belong to the same clause.
     if numbers[watched] == numbers[place] {
         literals.swap(watched, place);
     }
     Look::Moves(next, other)
 }
 
-/// Passes the watchers of a literal that became false, from the one at `from` on. They are in the list `passed`. If a clause
-/// now watches another literal instead, its watcher moves to that literal's list, and the last watcher in `passed` takes its
-/// place. Stops at a clause that may be falsified or force a literal. Returns `None` if there is no such clause.
+/// Passes the watchers of a literal that became false, from the one at `from` on. The list `passed` holds all watchers of the
+/// literal. If a clause now watches another literal instead, its watcher moves to that literal's list, and the last watcher in
+/// `passed` takes its place. Stops at a clause that may be falsified or force a literal. Returns `None` if there is no such
+/// clause.
 fn pass_from(
     denied: &[bool],
     numbers: &[u32],
@@ -188,7 +189,7 @@ impl Model for Watches {
 }
 
 impl Watches {
-    /// The watches for this many variables, which must be fewer than 2^32, without any clauses.
+    /// Watches without clauses, for this many variables, which must be fewer than 2^32.
     pub fn new(alloc: Global, variables: usize) -> Result<Watches, AllocError>
         requires { variables < 2 ^ 32 }
         ensures copied { IfOk result (λ watches. (known : List (Option (List Literal))) → AreCopied known watches) }
@@ -210,8 +211,8 @@ impl Watches {
     }
 
     /// Adds the clause with this number, if the database has one. It watches its first two literals, if it has at least two.
-    /// Clauses have to be added in the order of their numbers: a clause is not added if its number is not greater than all
-    /// numbers in the copy.
+    /// Clauses have to be added in the order of their numbers: a clause is added only if its number is greater than all numbers
+    /// in the copy.
     pub fn add(&mut self, alloc: Global, database: &Database, number: u64) -> Result<(), AllocError>
         ensures copied { AreCopied database.now self.old → AreCopied database.now self.new }
     {

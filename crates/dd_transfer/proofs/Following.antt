@@ -10,9 +10,9 @@ use Rattle.dd_pattern.specs.Reading.{Look}
 use Rattle.dd_expansion.specs.Placed.{is_flat}
 use Rattle.dd_formula.specs.LocalRule.{LocalRule, IsRule, is_of, is_true, reads_at, rule_allows}
 use Rattle.dd_formula.specs.Reach.{all_cells}
-use Rattle.dd_counts.specs.Rules.{least_x, greatest_x, slices, states, state_length}
+use Rattle.dd_counts.specs.Rules.{least_x, greatest_x, slice_fillings, states, state_length}
 use Rattle.dd_strip.specs.{declared.strip.Strip.Strip, Strips.IsFor, Strips.positions}
-use Rattle.dd_transfer.specs.Windows.{IsKept, IsWindow, window_look, numbered_window, stand}
+use Rattle.dd_transfer.specs.Windows.{IsKept, IsKeptWindow, window_look, numbered_window, stand}
 use Rattle.dd_transfer.specs.Transfers.{IsEdge}
 use Rattle.dd_transfer.specs.Slices.{RepeatsAcross, IsInSlices, HasSlices, IsKeptFrom, slices_from, state_from, window_from}
 use Rattle.dd_transfer.specs.Laws.{AreEdgesOf}
@@ -44,8 +44,8 @@ fewer r look x y m n low high has c inside node = has c (record { from = lower x
 some_there : (r : LocalRule) (look : Look) (x : ℤ) (n : ℕ) (c : Cell) → HasSlices r look x n → IsInSlices x n c → c.node < r.nodes → is_some (look c) ≡ true
 some_there r look x n c has inside node = let g = given r look x n c has inside node in ap is_some g.is
 
--- let y be the x coordinate of the tested slice of the window that begins at x. If the window that begins at 0 has a slice at d, relative to its
--- tested slice, then the window that begins at x has the slice at d + y
+-- let the window that begins at x have its tested slice at y, along the first axis. If the window that begins at 0 has a slice at d, relative to its
+-- tested slice, then the window that begins at x has a slice at d + y
 read_within : (r : LocalRule) (x y d : ℤ) → y ≡ x +ℤ stand r → (pos 0 ≤ℤ (d +ℤ stand r)) × (unsigned_abs (d +ℤ stand r) < state_length r + 1) →
     (x ≤ℤ (d +ℤ y)) × ((d +ℤ y) <ℤ (x +ℤ pos (state_length r + 1)))
 read_within r x y d at spot = within x y d (stand r) (state_length r + 1) at spot.0 spot.1
@@ -112,7 +112,7 @@ module _ (r : LocalRule) (s : Strip) (look : Look) (rule : IsRule r) (for : IsFo
           ∙ kept.true_there (moved v (along x)) a (ap (λ (z : ℤ). z +ℤ x) at ∙ turned (stand r) x) level node);
     }
 
-    windows_are : IsWindow r s (window_from r s look x) ↔ IsKeptFrom r look x
+    windows_are : IsKeptWindow r s (window_from r s look x) ↔ IsKeptFrom r look x
     windows_are =
         let same : numbered_window r s (window_from r s look x) ≡ part r s look x = ap (window_look s) (digits_from r s look for x (state_length r + 1) has) in
         (λ is. kept_of_part (subst (IsKept r) same is), λ kept. subst (IsKept r) (sym same) (kept_in_part kept))
@@ -121,7 +121,7 @@ module _ (r : LocalRule) (s : Strip) (look : Look) (rule : IsRule r) (for : IsFo
     edge_is : IsKeptFrom r look x → IsEdge r s (state_from r s look x) (slices_from r s look (x +ℤ pos (state_length r)) 1) (state_from r s look (x +ℤ pos 1))
     edge_is kept =
         let w = state_length r in
-        let m = slices r (positions s) in
+        let m = slice_fillings r (positions s) in
         let u = state_from r s look x in
         let t = slices_from r s look (x +ℤ pos w) 1 in
         let v = state_from r s look (x +ℤ pos 1) in
@@ -134,7 +134,7 @@ module _ (r : LocalRule) (s : Strip) (look : Look) (rule : IsRule r) (for : IsFo
           state = slices_below r s look for x w (fewer r look x x w (w + 1) (up' x) (less x w) has);
           slice = subst (λ (n : ℕ). t < n) (once m) t_lt;
           leads = sym (ap (λ (n : ℕ). n % states r (positions s)) (sym last_is ∙ first_is) ∙ mod-mul-add first (states r (positions s)) v v_lt);
-          is_window = subst (IsWindow r s) last_is (windows_are.1 kept);
+          is_window = subst (IsKeptWindow r s) last_is (windows_are.1 kept);
         }
       where
         up : (x : ℤ) (n : ℕ) → x ≤ℤ (x +ℤ pos n)

@@ -103,8 +103,8 @@ module _ (r : LocalRule) (s : Strip) (look : Look) (x : ℤ) (for : IsFor r s) (
       let g = given r look x (state_length r + 1) (shifted (along x) c) has (moved_inside c h) (omega (arith, h.node, for.nodes)) in
       ap is_some (part_same c h ∙ g.is)
 
-  -- if the x of a cell d lies between the least and the greatest x of `Stands`, and v is a position of the tested slice, d moved by v lies in the
-  -- window
+  -- let the x of a cell d lie between the least and the greatest x (see the file `Stands`), and let v be a position of the tested slice. Then d moved
+  -- by v lies in the window.
   read_inside : (v : Place) → v.x ≡ stand r → (d : Cell) → d.node < r.nodes → between (least_x (pos 0) (all_cells r)) (greatest_x (pos 0) (all_cells r)) d ≡ true → IsInside r s (shifted v d)
   read_inside v at d node inside =
       let spot = within_window r d.position.x inside in record {

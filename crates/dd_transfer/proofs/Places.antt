@@ -33,7 +33,7 @@ parts_of s i sized h =
       node = mod_below i s.nodes sized.nodes_some;
     }
 
--- let a cell of the slice at x have the same place as a cell c: its node is c's, and its y and z are c's modulo the strip's periods
+-- if a cell of the slice at x has the same place as a cell c, its node is c's, and its y and z are c's modulo the strip's periods
 pub cell_at_index : (s : Strip) (x : ℤ) (c : Cell) → IsSized s → c.node < s.nodes →
     cell_at s x (slice_index_of s c) ≡ cell (place x (pos (residue c.position.y s.y)) (pos (residue c.position.z s.z))) c.node
 cell_at_index s x c sized h =

@@ -12,7 +12,7 @@ use Rattle.dd_numbered.specs.{declared.numbered.Numbered.TheOpen.Numbered-F, Num
 use Rattle.dd_formula.specs.LocalRule.{LocalRule, is_true}
 use Rattle.dd_strip.specs.{declared.strip.Strip.Strip, Strips.cells}
 use Rattle.dd_transfer.specs.Windows.{Shown, IsFullWindow, IsTrueAlong, cell_at, shown_look, stand, window_index, window_look}
-use Rattle.dd_transfer.specs.placing.Formulas.{Standpoint, standpoint, window_numbers, numbers_near, SaysAt, ArePlaces}
+use Rattle.dd_transfer.specs.placing.Formulas.{Standpoint, standpoint, window_numbers, numbers_near, SaysAt, AreFormulas}
 use Rattle.dd_transfer.proofs.Truths.{window_below, along_from_slice, slice_from_along}
 
 -- ---- one cell
@@ -21,7 +21,7 @@ symbol_cond : (ss : List ℕ) (b : Bool) (o : Option ℕ) → symbol_with ss (co
 symbol_cond ss true o = refl
 symbol_cond ss false o = refl
 
--- a cell c is given relative to the position v: the symbol at c's number is what the window's look gives to the cell c moved by v
+-- if a cell c is given relative to the position v, the symbol at c's number is the one that the window's look gives to c moved by v
 near_reads : (s : Strip) (v : Place) (ss : List ℕ) (c : Cell) → read_by (numbers_near (standpoint s v)) ss c ≡ window_look s ss (shifted v c)
 near_reads s v ss c = symbol_cond ss (int_le (pos 0) (c.position.x +ℤ v.x) && nat_lt c.node s.nodes) (Some (window_index s (shifted v c)))
 
@@ -45,14 +45,14 @@ number_near p s v c n at is = is ∙ ap (λ (r : Standpoint). numbers_near r c) 
 
 -- ---- one more cell
 
-pub record ArePlacesBelow (r : LocalRule) (s : Strip) (n : ℕ) (es : List Numbered) : Type 0 where
+pub record AreFormulasBelow (r : LocalRule) (s : Strip) (n : ℕ) (es : List Numbered) : Type 0 where
   pub each : length es ≡ n
   pub says : (k : ℕ) (d : Numbered) → k < n → SaysAt r s (cell_at s (stand r) k) (get_or es k d)
 
-pub no_places : (r : LocalRule) (s : Strip) → ArePlacesBelow r s 0 []
+pub no_places : (r : LocalRule) (s : Strip) → AreFormulasBelow r s 0 []
 no_places r s = record { each = refl; says = λ k d lt. absurd (omega arith) }
 
-pub places_more : (r : LocalRule) (s : Strip) (n : ℕ) (es : List Numbered) (e : Numbered) → ArePlacesBelow r s n es → SaysAt r s (cell_at s (stand r) n) e → ArePlacesBelow r s (n + 1) (es ++ e ∷ [])
+pub places_more : (r : LocalRule) (s : Strip) (n : ℕ) (es : List Numbered) (e : Numbered) → AreFormulasBelow r s n es → SaysAt r s (cell_at s (stand r) n) e → AreFormulasBelow r s (n + 1) (es ++ e ∷ [])
 places_more r s n es e so_far here = record {
   each = omega (arith, length-append es (e ∷ []), so_far.each);
   says = λ k d lt. elim (cases_lt k n) [
@@ -64,7 +64,7 @@ places_more r s n es e so_far here = record {
   ];
 }
 
-pub all_places : (r : LocalRule) (s : Strip) (n : ℕ) (es : List Numbered) → n ≡ cells s → ArePlacesBelow r s n es → ArePlaces r s es
+pub all_places : (r : LocalRule) (s : Strip) (n : ℕ) (es : List Numbered) → n ≡ cells s → AreFormulasBelow r s n es → AreFormulas r s es
 all_places r s n es all so_far = record { each = so_far.each ∙ all; says = λ k d lt. so_far.says k d (omega (arith, all, lt)) }
 
 -- ---- all cells
@@ -78,7 +78,7 @@ each_true f [] h k d lt = absurd (omega arith)
 each_true f (e ∷ es) h zero d lt = (and_parts (f e) (list_all f es) h).0
 each_true f (e ∷ es) h (suc k) d lt = each_true f es (and_parts (f e) (list_all f es) h).1 k d (omega (arith, lt))
 
-place_says : (r : LocalRule) (w : Shown) (es : List Numbered) → IsFullWindow r w → ArePlaces r w.strip es → (k : ℕ) (d : Numbered) → k < cells w.strip →
+place_says : (r : LocalRule) (w : Shown) (es : List Numbered) → IsFullWindow r w → AreFormulas r w.strip es → (k : ℕ) (d : Numbered) → k < cells w.strip →
     holds_in (get_or es k d) w.symbols ≡ is_true r (cell_at w.strip (stand r) k) (shown_look w)
 place_says r w es full places k d lt = places.says k d lt w.symbols (window_below r w full)
 
@@ -86,13 +86,13 @@ nothing : Numbered
 nothing = roll-Numbered (Numbered-F.Constant false)
 
 -- if all formulas are true, the rule is true at each cell of the tested slice
-pub along_from_formulas : (r : LocalRule) (w : Shown) (es : List Numbered) → IsFullWindow r w → ArePlaces r w.strip es → list_all (λ e. holds_in e w.symbols) es ≡ true →
+pub along_from_formulas : (r : LocalRule) (w : Shown) (es : List Numbered) → IsFullWindow r w → AreFormulas r w.strip es → list_all (λ e. holds_in e w.symbols) es ≡ true →
     IsTrueAlong r (stand r) (shown_look w)
 along_from_formulas r w es full places h =
     along_from_slice r w (stand r) full.strip_for (λ k lt.
     sym (place_says r w es full places k nothing lt) ∙ each_true (λ e. holds_in e w.symbols) es h k nothing (omega (arith, lt, places.each)))
 
-pub formulas_from_along : (r : LocalRule) (w : Shown) (es : List Numbered) → IsFullWindow r w → ArePlaces r w.strip es → IsTrueAlong r (stand r) (shown_look w) →
+pub formulas_from_along : (r : LocalRule) (w : Shown) (es : List Numbered) → IsFullWindow r w → AreFormulas r w.strip es → IsTrueAlong r (stand r) (shown_look w) →
     list_all (λ e. holds_in e w.symbols) es ≡ true
 formulas_from_along r w es full places h =
     all_true (λ e. holds_in e w.symbols) es (λ k d lt.

@@ -7,10 +7,10 @@ use Rattle.std.specs.Prelude.{cond, nat_lt, ◌&&◌, slice_index, slice_index_o
 use Rattle.std.specs.List.{All}
 use Rattle.dd_pattern.specs.Weight.{total_weight}
 use Rattle.dd_formula.specs.LocalRule.{LocalRule, IsRule}
-use Rattle.dd_counts.specs.Rules.{slices, states, window_count, state_length}
+use Rattle.dd_counts.specs.Rules.{slice_fillings, states, window_count, state_length}
 use Rattle.dd_strip.specs.{declared.strip.Strip.Strip, Strips.IsSized, Strips.IsFor, Strips.cells, Strips.positions, Strips.HasWeights}
 use Rattle.dd_transfer.specs.Graphs.{transfer, target, next_of, window_of}
-use Rattle.dd_transfer.specs.Windows.{AreWindows, IsWindow, digits}
+use Rattle.dd_transfer.specs.Windows.{AreWindows, IsKeptWindow, digits}
 use Rattle.dd_transfer.specs.Transfers.{IsGraphOf, IsEdge, slice_weight}
 use Rattle.dd_transfer.proofs.Digits.{digits_length}
 use Rattle.dd_values.specs.lemmas.{Lists.slice_index_within, Numbers.power_some}
@@ -92,7 +92,7 @@ chosen : (p : Bool) (o : Option ℕ) (v : ℕ) → cond p o None ≡ Some v → 
 chosen true o v h = (refl, h)
 chosen false o v h = absurd (cc)
 
-edge_to : (r : LocalRule) (s : Strip) (n m : ℕ) (windows : List Bool) (weights : List ℕ) → n ≡ states r (positions s) → m ≡ slices r (positions s) → AreWindows r s (n * m) windows →
+edge_to : (r : LocalRule) (s : Strip) (n m : ℕ) (windows : List Bool) (weights : List ℕ) → n ≡ states r (positions s) → m ≡ slice_fillings r (positions s) → AreWindows r s (n * m) windows →
     (u t v : ℕ) → next_of (transfer n m windows weights) u t ≡ Some v → IsEdge r s u t v
 edge_to r s n m windows weights n_is m_is are u t v h =
     let g = transfer n m windows weights in
@@ -102,27 +102,27 @@ edge_to r s n m windows weights n_is m_is are u t v h =
     let slice : t < m = ltb-true _ _ both.1 in
     let led = taken (slice_index_or windows (u * m + t) false) ((u * m + t) % n) v in_range.1 in
     let inside : u * m + t < n * m = omega (arith, mul-add-lt u m t n state slice) in
-    let is_window : IsWindow r s (u * m + t) = (are.tells (u * m + t) inside).0 led.0 in
+    let is_window : IsKeptWindow r s (u * m + t) = (are.tells (u * m + t) inside).0 led.0 in
     record {
       state = omega (arith, state, n_is);
       slice = omega (arith, slice, m_is);
-      leads = led.1 ∙ (ap (λ (x : ℕ). (u * x + t) % n) m_is ∙ ap (λ (x : ℕ). (u * slices r (positions s) + t) % x) n_is);
-      is_window = subst (λ (x : ℕ). IsWindow r s (u * x + t)) m_is is_window;
+      leads = led.1 ∙ (ap (λ (x : ℕ). (u * x + t) % n) m_is ∙ ap (λ (x : ℕ). (u * slice_fillings r (positions s) + t) % x) n_is);
+      is_window = subst (λ (x : ℕ). IsKeptWindow r s (u * x + t)) m_is is_window;
     }
 
-edge_from : (r : LocalRule) (s : Strip) (n m : ℕ) (windows : List Bool) (weights : List ℕ) → n ≡ states r (positions s) → m ≡ slices r (positions s) → AreWindows r s (n * m) windows →
+edge_from : (r : LocalRule) (s : Strip) (n m : ℕ) (windows : List Bool) (weights : List ℕ) → n ≡ states r (positions s) → m ≡ slice_fillings r (positions s) → AreWindows r s (n * m) windows →
     (u t v : ℕ) → IsEdge r s u t v → next_of (transfer n m windows weights) u t ≡ Some v
 edge_from r s n m windows weights n_is m_is are u t v e =
     let state : u < n = omega (arith, e.state, n_is) in
     let slice : t < m = omega (arith, e.slice, m_is) in
     let inside : u * m + t < n * m = omega (arith, mul-add-lt u m t n state slice) in
-    let is_window : IsWindow r s (u * m + t) = subst (λ (x : ℕ). IsWindow r s (u * x + t)) (sym m_is) e.is_window in
+    let is_window : IsKeptWindow r s (u * m + t) = subst (λ (x : ℕ). IsKeptWindow r s (u * x + t)) (sym m_is) e.is_window in
     let opened : slice_index_or windows (u * m + t) false ≡ true = (are.tells (u * m + t) inside).1 is_window in
     let leads : (u * m + t) % n ≡ v = sym (e.leads ∙ (ap (λ (x : ℕ). (u * x + t) % states r (positions s)) (sym m_is) ∙ ap (λ (x : ℕ). (u * m + t) % x) (sym n_is))) in
     rw (lt-ltb u n state, lt-ltb t m slice, opened) (ap (λ (x : ℕ). Some x) leads)
 
 pub some_states : (r : LocalRule) (s : Strip) (n : ℕ) → IsRule r → n ≡ states r (positions s) → 0 < n
-some_states r s n rule is = omega (arith, is, power_some (slices r (positions s)) (state_length r) (power_some r.symbols (r.nodes * positions s) rule.symbols.0))
+some_states r s n rule is = omega (arith, is, power_some (slice_fillings r (positions s)) (state_length r) (power_some r.symbols (r.nodes * positions s) rule.symbols.0))
 
 -- these parts make the transfer graph of the rule
 pub graph_is : (r : LocalRule) (s : Strip) (ws : List ℕ) (n count : ℕ) (windows : List Bool) (weights : List ℕ) → IsRule r → IsFor r s → HasWeights r ws →
@@ -134,7 +134,7 @@ graph_is r s ws n count windows weights rule for has n_is count_is few small are
     let w = state_length r in
     let w_some : 1 ≤ w = omega arith in
     let c = cells s in
-    let m = slices r (positions s) in
+    let m = slice_fillings r (positions s) in
     let m_is : m ≡ b ^ c = ap (λ (x : ℕ). b ^ (x * positions s)) (sym for.nodes) in
     let m_some : 0 < m = power_some b (r.nodes * positions s) b_some in
     let n_some : 0 < n = omega (arith, n_is, power_some m w m_some) in

@@ -6,7 +6,7 @@ use Rattle.std.specs.{Prelude.◌<ℤ◌, Prelude.unwrap_or, Prelude.IsSomeAnd, 
 use Rattle.dd_lattice.specs.declared.position.Cell.{Cell}
 use Rattle.dd_pattern.specs.{Reading.Look, Weight.total_weight}
 use Rattle.dd_formula.specs.LocalRule.{LocalRule}
-use Rattle.dd_counts.specs.Rules.{slices}
+use Rattle.dd_counts.specs.Rules.{slice_fillings}
 use Rattle.dd_strip.specs.{declared.strip.Strip.Strip, Strips.IsSized, Strips.IsFor, Strips.cells, Strips.positions}
 use Rattle.dd_transfer.specs.{Windows.cell_at, Windows.digits, Transfers.slice_weight}
 use Rattle.dd_transfer.specs.Slices.{IsInSlices, HasSlices, cell_from, symbols_from, number_with_digits, slices_from}
@@ -84,7 +84,7 @@ module _ (r : LocalRule) (s : Strip) (look : Look) (for : IsFor r s) where
 
   -- the number of different slices is the number of symbols to the power of the number of cells in a slice; `slices_powers` says the same of rows of
   -- n slices
-  pub slices_power : slices r (positions s) ≡ r.symbols ^ cells s
+  pub slices_power : slice_fillings r (positions s) ≡ r.symbols ^ cells s
   slices_power = ap (λ (n : ℕ). r.symbols ^ (n * positions s)) (sym for.nodes)
 
   power_power : (b c n : ℕ) → (b ^ c) ^ n ≡ b ^ (n * c)
@@ -94,27 +94,27 @@ module _ (r : LocalRule) (s : Strip) (look : Look) (for : IsFor r s) where
       ∙ (ap (λ (x : ℕ). x * b ^ c) (power_power b c n)
       ∙ (sym (pow-add b (n * c) c) ∙ ap (λ (x : ℕ). b ^ x) (let e : n * c + c ≡ suc n * c = omega arith in e)))
 
-  pub slices_powers : (n : ℕ) → slices r (positions s) ^ n ≡ r.symbols ^ (n * cells s)
+  pub slices_powers : (n : ℕ) → slice_fillings r (positions s) ^ n ≡ r.symbols ^ (n * cells s)
   slices_powers n = ap (λ (b : ℕ). b ^ n) slices_power ∙ power_power r.symbols (cells s) n
 
   -- the number of a row of slices, from the numbers of its first slices and of the rest
-  pub slices_joined : (x : ℤ) (m n : ℕ) → slices_from r s look x (m + n) ≡ slices_from r s look x m * slices r (positions s) ^ n + slices_from r s look (x +ℤ pos m) n
+  pub slices_joined : (x : ℤ) (m n : ℕ) → slices_from r s look x (m + n) ≡ slices_from r s look x m * slice_fillings r (positions s) ^ n + slices_from r s look (x +ℤ pos m) n
   slices_joined x m n =
       let b = r.symbols in
       let ds = symbols_from s look x m in
       let es = symbols_from s look (x +ℤ pos m) n in
-      let power : b ^ length es ≡ slices r (positions s) ^ n = ap (λ (k : ℕ). b ^ k) (length-symbols (x +ℤ pos m) n) ∙ sym (slices_powers n) in
+      let power : b ^ length es ≡ slice_fillings r (positions s) ^ n = ap (λ (k : ℕ). b ^ k) (length-symbols (x +ℤ pos m) n) ∙ sym (slices_powers n) in
       ap (number_with_digits b) (symbols_joined x m n) ∙ (joined b ds es ∙ ap (λ (p : ℕ). number_with_digits b ds * p + number_with_digits b es) power)
 
-  pub slices_longer : (x : ℤ) (n : ℕ) → slices_from r s look x (n + 1) ≡ slices_from r s look x n * slices r (positions s) + slices_from r s look (x +ℤ pos n) 1
+  pub slices_longer : (x : ℤ) (n : ℕ) → slices_from r s look x (n + 1) ≡ slices_from r s look x n * slice_fillings r (positions s) + slices_from r s look (x +ℤ pos n) 1
   slices_longer x n =
-      let one : slices r (positions s) ^ 1 ≡ slices r (positions s) = pow-suc (slices r (positions s)) 0 ∙ (ap (λ (p : ℕ). p * slices r (positions s)) (pow-zero (slices r (positions s))) ∙ omega arith) in
+      let one : slice_fillings r (positions s) ^ 1 ≡ slice_fillings r (positions s) = pow-suc (slice_fillings r (positions s)) 0 ∙ (ap (λ (p : ℕ). p * slice_fillings r (positions s)) (pow-zero (slice_fillings r (positions s))) ∙ omega arith) in
       slices_joined x n 1 ∙ ap (λ (p : ℕ). slices_from r s look x n * p + slices_from r s look (x +ℤ pos n) 1) one
 
-  pub slices_below : (x : ℤ) (n : ℕ) → HasSlices r look x n → slices_from r s look x n < slices r (positions s) ^ n
+  pub slices_below : (x : ℤ) (n : ℕ) → HasSlices r look x n → slices_from r s look x n < slice_fillings r (positions s) ^ n
   slices_below x n has =
       let below = number_below r.symbols (symbols_from s look x n) (symbols_below x n has) in
-      let power : r.symbols ^ length (symbols_from s look x n) ≡ slices r (positions s) ^ n = ap (λ (k : ℕ). r.symbols ^ k) (length-symbols x n) ∙ sym (slices_powers n) in
+      let power : r.symbols ^ length (symbols_from s look x n) ≡ slice_fillings r (positions s) ^ n = ap (λ (k : ℕ). r.symbols ^ k) (length-symbols x n) ∙ sym (slices_powers n) in
       omega (arith, below, power)
 
   -- the digits of the number of a row of slices are the symbols of these slices

@@ -4,7 +4,7 @@ use Rattle.std.proofs.lemmas.{Bool.cases_lt, List.get_or_append_left, List.get_o
 use Rattle.std.specs.{Prelude.◌⊎◌, Prelude.◌↔◌, Prelude.IsTrue, List.All}
 use Rattle.dd_formula.specs.LocalRule.{LocalRule, IsRule}
 use Rattle.dd_strip.specs.{declared.strip.Strip.Strip, Strips.IsFor}
-use Rattle.dd_transfer.specs.Windows.{Shown, shown, shown_look, IsFullWindow, IsKept, IsWindow, AreWindows, window_cells, digits}
+use Rattle.dd_transfer.specs.Windows.{Shown, shown, shown_look, IsFullWindow, IsKept, IsKeptWindow, AreWindows, window_cells, digits}
 use Rattle.dd_transfer.proofs.Digits.{digits_length, digits_below}
 
 -- writing the digits of a number over a window gives the window with this number
@@ -24,7 +24,7 @@ full r s v n rule for is =
     } in
     subst (IsFullWindow r) (sym is) here
 
-pub windows_more : (r : LocalRule) (s : Strip) (n : ℕ) (ws : List Bool) (b : Bool) → AreWindows r s n ws → (IsTrue b ↔ IsWindow r s n) → AreWindows r s (n + 1) (ws ++ b ∷ [])
+pub windows_more : (r : LocalRule) (s : Strip) (n : ℕ) (ws : List Bool) (b : Bool) → AreWindows r s n ws → (IsTrue b ↔ IsKeptWindow r s n) → AreWindows r s (n + 1) (ws ++ b ∷ [])
 windows_more r s n ws b so_far here = record {
   each = omega (arith, length-append ws (b ∷ []), so_far.each);
   tells = λ k lt. elim (cases_lt k n) [
@@ -35,7 +35,7 @@ windows_more r s n ws b so_far here = record {
     | inr above ↦
         let e : k ≡ n = omega arith in
         let same = get_or_push ws b false k (omega (arith, e, so_far.each)) in
-        (λ yes. subst (IsWindow r s) (sym e) (here.0 (sym same ∙ yes)), λ window. same ∙ here.1 (subst (IsWindow r s) e window))
+        (λ yes. subst (IsKeptWindow r s) (sym e) (here.0 (sym same ∙ yes)), λ window. same ∙ here.1 (subst (IsKeptWindow r s) e window))
   ];
 }
 

@@ -4,7 +4,7 @@
 use Rattle.std.specs.Prelude.{◌≡◌, ℕ, ◌+◌, ◌*◌, ◌%◌, ◌<◌, ℤ, pos, ◌-ℤ◌, ◌≤ℤ◌, List, [], ◌∷◌, length, slice_index, slice_index_or}
 use Rattle.std.specs.Int.{IsGcd}
 use Rattle.dd_formula.specs.LocalRule.{LocalRule}
-use Rattle.dd_counts.specs.Rules.{slices, states}
+use Rattle.dd_counts.specs.Rules.{slice_fillings, states}
 use Rattle.dd_strip.specs.{declared.strip.Strip.Strip, Strips.positions}
 use Rattle.dd_transfer.specs.Transfers.{IsEdge, slice_weight}
 
@@ -16,7 +16,7 @@ IsWalk r s u (w ∷ ws) v = ((t : ℕ) × IsEdge r s u t w) × IsWalk r s w ws v
 
 -- the number of a state's last slice; each edge to the state is by this slice
 abbrev pub last_slice : LocalRule → Strip → ℕ → ℕ
-last_slice r s w = w % slices r (positions s)
+last_slice r s w = w % slice_fillings r (positions s)
 
 -- the weight of a walk through these states: the total weight of the edges that lead to them; an edge weighs what its slice weighs
 abbrev pub walk_weight : LocalRule → Strip → List ℕ → List ℕ → ℕ

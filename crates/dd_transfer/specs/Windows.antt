@@ -62,8 +62,8 @@ pub record IsKept (r : LocalRule) (look : Look) : Type 0 where
   pub true_there : IsTrueAlong r (stand r) look
 
 -- the rule keeps the window with this number
-abbrev pub IsWindow : LocalRule → Strip → ℕ → Type 0
-IsWindow r s number = IsKept r (numbered_window r s number)
+abbrev pub IsKeptWindow : LocalRule → Strip → ℕ → Type 0
+IsKeptWindow r s number = IsKept r (numbered_window r s number)
 
 -- A window of the rule: its strip is suitable for the rule (see `IsFor` of dd_strip), there is a symbol for each cell of its slices, and each symbol
 -- is in the alphabet.
@@ -79,4 +79,4 @@ cell_at s x i = let k = i / s.nodes in cell (place x (pos (k % s.y)) (pos (k / s
 -- the list says for each window with a number below n whether the rule keeps it
 pub record AreWindows (r : LocalRule) (s : Strip) (n : ℕ) (windows : List Bool) : Type 0 where
   pub each : length windows ≡ n
-  pub tells : (k : ℕ) → k < n → (slice_index_or windows k false ≡ true) ↔ IsWindow r s k
+  pub tells : (k : ℕ) → k < n → (slice_index_or windows k false ≡ true) ↔ IsKeptWindow r s k

@@ -1,6 +1,6 @@
 //! Builds the transfer graph of a rule over a strip.
 ghost use Rattle.std.specs.Prelude.{◌≡◌, ◌<◌, ◌≤◌, ℕ, IfOk, IfErr, length, slice_index};
-ghost use Rattle.dd_counts.specs.Rules.{slices, states, window_count, most_states, most_windows};
+ghost use Rattle.dd_counts.specs.Rules.{slice_fillings, states, window_count, most_states, most_windows};
 ghost use Rattle.dd_pattern.specs.Weight.{AreWeights, total_weight};
 ghost use Rattle.dd_formula.specs.LocalRule.{IsRule};
 ghost use Rattle.dd_strip.specs.Strips.{IsFor, cells, positions, IsStrip, HasWeights, strip_for};

@@ -3,7 +3,7 @@
 ghost use Rattle.std.specs.Prelude.{◌≡◌, ◌<◌, ◌↔◌, IsTrue};
 ghost use Rattle.dd_formula.specs.Allowed.{AreAllowed};
 ghost use Rattle.dd_transfer.specs.Windows.{IsFullWindow, IsKept, shown_look};
-ghost use Rattle.dd_transfer.specs.placing.Formulas.{AllowsAll, AllowsEach, ArePlaces};
+ghost use Rattle.dd_transfer.specs.placing.Formulas.{AllowsAll, AllowsEach, AreFormulas};
 
 use crate::windows::Window;
 use dd_formula::Rule;
@@ -59,7 +59,7 @@ fn are_allowed(rule: &Rule, allows_all: bool, window: &Window) -> bool
 pub(crate) fn is_kept(rule: &Rule, formulas: &[Numbered], allows_all: bool, window: &Window) -> bool
     requires window { IsFullWindow rule.now window.now }
     requires all { IsTrue allows_all → AllowsAll rule.now }
-    requires formulas { ArePlaces rule.now window.now.strip formulas.now }
+    requires formulas { AreFormulas rule.now window.now.strip formulas.now }
     ensures { IsTrue result ↔ IsKept rule.now (shown_look window.now) }
 {
     if all_true(formulas, window.symbols()) {

@@ -1,8 +1,8 @@
-//! Transfer graphs of rules over strips: the transfer matrices of Lind and Marcus (1995), as graphs. Each position of Z^d has
-//! one or more nodes, and a cell is a position together with one of its nodes. A node may allow only some symbols. A rule is a
-//! formula about a cell and the cells near it. A strip has periods along y and z, and no end along x. A slice of the strip lies
-//! at one value of x, and gives a symbol to each cell there. Let n be the number of slices from the first to the last that the
-//! rule reads when it is evaluated at the cells of one position. The slice of this position counts as read.
+//! Transfer graphs of rules over strips. Configurations are walks in such a graph, as in Lind and Marcus (1995). Each position
+//! of Z^d has one or more nodes, and a cell is a position together with one of its nodes. A node may allow only some symbols. A
+//! rule is a formula about a cell and the cells near it. A strip has periods along y and z, and no end along x. A slice of the
+//! strip lies at one value of x, and gives a symbol to each cell there. Let n be the number of slices from the first to the
+//! last that the rule reads when it is evaluated at the cells of one position. The slice of this position counts as read.
 //!
 //! The vertices of the graph are states. A state consists of n - 1 consecutive slices, or of one if n is 1. A window is a state
 //! followed by one more slice. Its tested slice is the first one at whose cells the rule reads nothing to the left of the

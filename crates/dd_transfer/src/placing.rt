@@ -4,7 +4,7 @@ ghost use Rattle.dd_strip.specs.Strips.{IsSized, IsFor};
 ghost use Rattle.dd_transfer.specs.Windows.{stand};
 ghost use Rattle.dd_lattice.specs.Place.{moved};
 ghost use Rattle.dd_lattice.specs.Cells.{cell};
-ghost use Rattle.dd_transfer.specs.placing.Formulas.{standpoint, window_numbers, ArePlaces, SaysAt};
+ghost use Rattle.dd_transfer.specs.placing.Formulas.{standpoint, window_numbers, AreFormulas, SaysAt};
 
 use crate::cells::{cell_at, number};
 use dd_formula::Rule;
@@ -87,7 +87,7 @@ pub(crate) fn formulas(
     requires x { x ≡ stand rule.now }
     requires some { pos 0 ≤ℤ x }
     requires near { x ≤ℤ pos 16 }
-    ensures { IfOk result (ArePlaces rule.now strip) }
+    ensures { IfOk result (AreFormulas rule.now strip) }
 {
     let mut formulas = Items::new(alloc);
     for number in 0..strip.cells() {

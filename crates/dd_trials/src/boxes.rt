@@ -38,7 +38,7 @@ fn symbol(is_zero: bool, is_one: bool) -> Option<usize>
     }
 }
 
-/// The number, as in `filling`, of the filling that the inputs of `cells` cells give; `None` unless exactly one input of each
+/// The filling that the inputs of `cells` cells give, as its number (see `filling`); `None` unless exactly one input of each
 /// cell is true. `values` begins with the values of these inputs, two for each cell.
 fn filling_number(values: &[bool], cells: usize) -> Option<usize> {
     let mut number = 0usize;
@@ -60,7 +60,7 @@ fn filling_number(values: &[bool], cells: usize) -> Option<usize> {
 /// For each filling of the cells, by number: how many assignments satisfy the clauses and give the cells these symbols.
 fn satisfying(alloc: Global, cnf: &Cnf, cells: usize) -> Result<[u32; 8], Fail> {
     if cnf.variables() > 16 {
-        return Err("few variables".into());
+        return Err("more than 16 variables".into());
     }
     let mut found = [0u32; 8];
     for number in 0..1u32 << cnf.variables() {

@@ -74,7 +74,7 @@ fn size(alloc: Global, script: &str, goal: u32, radius: u32, period: u32) -> Res
 /// `2 * radius + 1` positions, and the torus has `period`. The bound counts the goal's clauses and, for each cell, even at the
 /// edge:
 /// - one clause that says that it has a symbol;
-/// - for each two symbols, one that says that it doesn't have both;
+/// - for each pair of symbols, one that says that it doesn't have both;
 /// - for each symbol that its node doesn't allow, one that says that it doesn't have this symbol;
 /// - one that says that the rule is true there;
 /// - the clauses of the rule's gates: `k + 1` for a gate over `k` parts, and 4 for an equivalence.
@@ -88,8 +88,8 @@ const SIZES: [(&str, u32, u32, u32, u32); 18] = [
     // The formula is about one symbol of one cell, so there is no gate. A negation needs no gate either.
     ("%dim 1 %rule x o=1", 0, 8, 8, 51),
     ("%dim 1 %rule x !(o.rt=1)", 0, 0, 8, 24),
-    // An implication is a gate over two parts, and one of these parts is itself a gate over two. This gives 3 + 3 + 3 clauses on
-    // each of 9, 16 and 25 positions.
+    // An implication is a gate over two parts, and here one of these parts is itself a gate over two. This gives 3 + 3 + 3
+    // clauses on each of 9, 16 and 25 positions.
     ("%rule x o=1 -> (o.rt=0 & o.up=0)", 0, 1, 3, 81),
     ("%rule x o=1 -> (o.rt=0 & o.up=0)", 7, 1, 4, 151),
     ("%rule x o=1 -> (o.rt=0 & o.up=0)", 7, 2, 4, 232),

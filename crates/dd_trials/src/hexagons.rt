@@ -64,7 +64,7 @@ const TRUTHS: &[(&[Place], bool, bool)] = &[
     (&[(-1, 0, 1), (0, -1, 1), (1, 0, 0), (0, 1, 0)], true, true),
 ];
 
-/// Asserts whether the rule is true at each of the two nodes.
+/// Asserts that the rule's truth at each of the two nodes is as in `TRUTHS`.
 fn assert_truths(rt: &impl Abort, alloc: Global, rule: &Rule) -> Result<(), Fail> {
     for (ones, first, second) in TRUTHS {
         let filling = filling_with(alloc, rule, ones)?;

@@ -123,8 +123,8 @@ const APART: &str = "%rule y o=1 -> o.rt=0";
 
 const FULL: &str = "%rule y o@o";
 
-/// A setting with a configuration, an automaton, a rule, and a mark for each cell. The mark is 1 where the configuration's image
-/// breaks the rule or has a symbol that the node doesn't allow.
+/// A setting, an automaton, a rule, and a mark for each cell. The setting is the beginning of a script, and has the
+/// configuration. The mark is 1 where the configuration's image breaks the rule or has a symbol that the node doesn't allow.
 const IMAGES: &[(&str, &str, &str, &[u32])] = &[
     // The images under `LEFT`, `RIGHT` and `ONES` are 1 1 0 0 0 0, 0 0 1 1 0 0 and 1 1 1 1 1 1.
     (LINE, LEFT, APART, &[1, 0, 0, 0, 0, 0]),
@@ -198,8 +198,8 @@ const THREE: &str = "%dim 1 %alphabet 0 1 2 %rule x o@o %conf c [3] 0 1 2 ";
 // to the right.
 const HEXAGONS: &str = "%topology hex %rule x o@o %conf c [3 1] 1 0 0 0 0 0 ";
 
-/// A setting with a configuration, a map, and a map back. Then the symbols of the configuration, of its image under the map and
-/// then the map back, and of its image under the map back and then the map.
+/// A setting, a map, and a map back. Then the symbols of the setting's configuration, of its image under the map and then the
+/// map back, and of its image under the map back and then the map.
 const ROUNDS: &[(&str, &str, &str, &[u32], &[u32], &[u32])] = &[
     (
         LINE,

@@ -1,6 +1,6 @@
 // The lists of minimal forbidden patterns, for small rules. A pattern gives symbols to some of the cells that a rule reads, and
 // leaves the others out. It is forbidden if every filling with allowed symbols that agrees with it breaks the rule, and minimal
-// if no further cell can be left out. A list need not have all such patterns.
+// if no further cell can be left out. A list need not contain all such patterns.
 use crate::scripts::script_of;
 use dd_minimal::minimal;
 use dd_script::Script;
@@ -15,7 +15,7 @@ const HARD: &str = "%rule x o=1 -> (o.rt=0 & o.up=0)";
 
 // The neighbours of the first node of the origin are the second nodes at (0,-1), (-1,0) and (0,0). Those of the second node are
 // the first nodes at (0,0), (1,0) and (0,1). At each node the rule reads four cells: the node and its neighbours. In cell
-// order, the first node is the third of its four cells, and the second node is the second of its four cells.
+// order, the first node comes third among the four cells read there, and the second node comes second.
 const HEXAGONS: &str = "%topology hex %rule x Ap[o1] (p~o -> !(p=1 & o=1))";
 
 const SECOND_IS_1: &str = "%topology hex %only 1 1 %rule x Ap[o1] (p~o -> !(p=1 & o=1))";
@@ -44,8 +44,9 @@ const MINIMAL: &[(&str, u32, &[Pattern])] = &[
         0,
         &[&[Some(0), Some(1)], &[Some(1), Some(0)]],
     ),
-    // A filling that breaks the rule is made into a pattern: cell after cell is left out if the rest is still forbidden. In 0
-    // 0 1 the first cell is left out, since 1 0 1 breaks the rule too. In 0 1 1 it is kept, since 1 1 1 obeys the rule.
+    // A filling that breaks the rule is made into a pattern: the cells are taken one by one, and each is left out if the rest
+    // is still forbidden. In 0 0 1 the first cell is left out, since 1 0 1 breaks the rule too. In 0 1 1 it is kept, since 1 1
+    // 1 obeys the rule.
     (
         "%dim 1 %rule x o=o.rt & o.rt=o.rt.rt",
         0,

@@ -1,7 +1,7 @@
 // The clauses of box questions over small rules, on small boxes.
 ghost use Rattle.std.specs.Prelude.{◌≡◌, ◌≤◌, ◌+◌, IsTrue, IfOk};
 ghost use Rattle.dd_formula.specs.Counts.{cut};
-ghost use Rattle.dd_boxes.specs.Boxes.{Reaches};
+ghost use Rattle.dd_boxes.specs.Boxes.{ReadsWithin};
 ghost use Rattle.dd_boxes.specs.Counts.{goal_clauses};
 ghost use Rattle.dd_boxes.specs.Goals.{IsGoalFor};
 ghost use Rattle.dd_boxes.specs.Laws.{OneBox};
@@ -39,7 +39,7 @@ fn one_radius(premise: &Rule, goal: &Goal, _radius: u32)
 /// Whether the box of this radius holds all that the goal reads.
 fn reaches(alloc: Global, premise: &Rule, goal: &Goal, radius: u32) -> Result<bool, AllocError>
     requires { IsGoalFor premise.now (goal_of premise.now goal.now) }
-    ensures { IfOk result (λ found. IsTrue found → Reaches (goal_of premise.now goal.now) radius) }
+    ensures { IfOk result (λ found. IsTrue found → ReadsWithin (goal_of premise.now goal.now) radius) }
 {
     one_radius(premise, goal, radius);
     // This call tells the proof what the type `Rule` guarantees.
@@ -47,8 +47,8 @@ fn reaches(alloc: Global, premise: &Rule, goal: &Goal, radius: u32) -> Result<bo
     Ok(least_radius(alloc, goal)? <= radius)
 }
 
-/// The clauses of a box question on a small box. The radius must be 0 or 1 on the line, and 0 in the plane. Fails for any other
-/// box, if the box lacks a cell that the goal reads, or if a position or the goal has more than 1000 clauses.
+/// The clauses of a box question on a small box. The radius must be 0 or 1 on the line, and 0 in the plane. Fails if the box is
+/// any other one, if it lacks a cell that the goal reads, or if a position or the goal has more than 1000 clauses.
 #[tactic(auto, using(crate::proofs::Counting::few_in_a_box, crate::proofs::Counting::few_at_the_origin))]
 pub(crate) fn clauses_of(
     alloc: Global,
@@ -63,7 +63,7 @@ pub(crate) fn clauses_of(
     }
     let goals = goal_clauses(alloc, premise, goal)?;
     if place_clauses(premise, 1000) > 1000 || goals > 1000 {
-        return Err("few clauses".into());
+        return Err("more than 1000 clauses for a position or for the goal".into());
     }
     match (premise.dim(), radius) {
         (1, 0 | 1) => Ok(box_clauses(alloc, premise, goal, radius)?),

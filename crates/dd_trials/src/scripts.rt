@@ -16,7 +16,7 @@ fn joined(alloc: Global, parts: &[&str]) -> Result<Vec<u8>, AllocError> {
 pub(crate) fn parsed(alloc: Global, parts: &[&str]) -> Result<Result<Script, ScriptFault>, Fail> {
     let bytes = joined(alloc, parts)?;
     if bytes.len() > 1_048_576 {
-        return Err("a short script".into());
+        return Err("the script is too long".into());
     }
     Ok(parse(alloc, &bytes))
 }

@@ -78,7 +78,7 @@ fn compiled(
     requires ascending { IsStrictlySortedBy cell_cmp cells.now }
 {
     if cells.len() > 4 {
-        return Err("few cells".into());
+        return Err("more than four cells".into());
     }
     let inputs = inputs_of(alloc, cells, rule.symbols())?;
     let mut circuit = Circuit::new(alloc, cells.len() as u32 * rule.symbols());

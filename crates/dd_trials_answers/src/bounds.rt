@@ -49,8 +49,8 @@ const DISCHARGES: [(&str, &str); 16] = [
         "%topology king %weights 1 0 %rule apart o=0 | (o.rt=0 & o.up=0 & o.ne=0 & o.nw=0) %discharge apart 0 1 [1 0] [0 1] [1 1]",
         "query 1 BOUND 3/4\n",
     ),
-    // Of three cells in a row at most one is 0. Without a margin the region has two cells, and the rule applies at none of them.
-    // With a margin the rule forbids that both of these cells are 0. With the radius 1 the amounts also depend on the cells
+    // Of three cells in a row at most one is 0. Without a margin the region has two cells, and the rule applies at neither of
+    // them. With a margin the rule doesn't let both of these cells be 0. With the radius 1 the amounts also depend on the cells
     // beside the giver.
     (
         "%dim 1 %rule apart o=0 -> (o.rt=1 & o.rt.rt=1) %discharge apart 0 0 [1]",
@@ -64,8 +64,8 @@ const DISCHARGES: [(&str, &str); 16] = [
         "%dim 1 %rule apart o=0 -> (o.rt=1 & o.rt.rt=1) %discharge apart 1 1 [1]",
         "query 1 BOUND 2/3\n",
     ),
-    // The same rule, but a cell gives to the next two. Without a margin the region has three cells, and the rule applies only at
-    // the first of them. With a margin the rule forbids that two of these three cells are 0.
+    // The same rule, but a cell gives to the next two. Without a margin the region has three cells, and the rule applies only
+    // at the first of them. With a margin the rule doesn't let any two of these three cells be 0.
     (
         "%dim 1 %rule apart o=0 -> (o.rt=1 & o.rt.rt=1) %discharge apart 0 0 [1] [2]",
         "query 1 BOUND 1/2\n",

@@ -1,8 +1,8 @@
 // Tests of two kinds of query: what runs answer, and which answers a check accepts. `%maps f x y` asks whether f maps each
-// configuration of the rule x to one of the rule y. `%conjugate f g x y` asks four questions. Does f map x into y? Does g map y
-// into x? Does f followed by g leave each configuration of x as it is? Does g followed by f leave each configuration of y as it
-// is? CONJUGATE gives a radius for each question. BROKEN gives the number of a question whose answer is NO, and then the
-// periods of a configuration that shows this.
+// configuration that obeys the rule x to one that obeys the rule y. `%conjugate f g x y` asks four questions. Does f map x into
+// y? Does g map y into x? Does f followed by g leave each configuration of x as it is? Does g followed by f leave each
+// configuration of y as it is? CONJUGATE gives a radius for each question. BROKEN gives the number of a question whose answer
+// is NO, and then the periods of a configuration that shows this.
 use crate::outputs::{assert_answers, assert_checks, assert_lines};
 use std::test::Fail;
 

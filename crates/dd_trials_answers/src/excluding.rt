@@ -1,7 +1,7 @@
 //! What accepted answers exclude, tried on three configurations. Two of them are given as functions in the code: the spike,
 //! which is a 1 among 0s, and the checkerboard. The third is a periodic configuration of the script. An answer excludes a
 //! query's goal at a position if it is a YES and the check accepts it for this query. Then a configuration that obeys the
-//! query's premise everywhere doesn't have the goal there. Another one may have it.
+//! query's premise everywhere doesn't have the goal there. A configuration that breaks the premise may have it.
 ghost use Rattle.dd_checker.specs.Lifted.{IsWhole};
 
 use dd_answer::answer;
@@ -47,7 +47,7 @@ const PLACES: &[i32] = &[-1_000_000, 0, 1];
 
 fn script_of(alloc: Global, bytes: &[u8]) -> Result<Script, Fail> {
     if bytes.len() > 1_048_576 {
-        return Err("a short script".into());
+        return Err("the script is too long".into());
     }
     Ok(parse(alloc, bytes)?)
 }
@@ -125,7 +125,7 @@ fn assert_functions(
     answers: &[Answer],
 ) -> Result<(), Fail> {
     if !allows_both(script) {
-        return Err("a node with both symbols".into());
+        return Err("not a single node that allows both symbols".into());
     }
     assert_rows(rt, alloc, script, answers, &Spike)?;
     assert_rows(rt, alloc, script, answers, &Checkerboard)

@@ -1,5 +1,5 @@
-// Sample scripts: the first lines of their answers, which are the same for all of them and were worked out by hand for the
-// smallest, and which words of a command line ask for a sample.
+// Sample scripts: the first lines of their answers, and which words of a command line ask for a sample. The first lines are the
+// same for all samples, and were worked out by hand for the smallest.
 use crate::outputs::assert_first_lines;
 use dd_engines::Roster;
 use dd_outside::{MemorySink, MemorySource, ReadAllFault, read_all};

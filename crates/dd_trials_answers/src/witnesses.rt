@@ -102,8 +102,7 @@ const OTHERS: [(&str, &[(&str, bool)]); 4] = [
             ("query 1 NO 1 1\nconf 0 1\n", false),
         ],
     ),
-    // An answer must name a cell of the box from 0 to 2, the first one at which the rule is false. In this box it is false only
-    // at 0.
+    // An OUT must name the first cell of the box from 0 to 2 at which the rule is false. In this box it is false only at 0.
     (
         "%dim 1 %rule far o.rt.rt=1 %conf c [3] 1 1 0 %member c far",
         &[

@@ -159,7 +159,7 @@ fn takes_the_steps_in_turn(rt: HostRuntime) -> Result<(), Fail> {
 }
 
 #[test]
-fn a_literal_that_stands_twice_in_a_clause_counts_once(rt: HostRuntime) -> Result<(), Fail> {
+fn a_literal_that_occurs_twice_in_a_clause_counts_once(rt: HostRuntime) -> Result<(), Fail> {
     let twice = [1, 1, 0, -1, 0];
     for steps in [[0, 1, 2, 0, 0], [0, 2, 1, 0, 0]] {
         let found = check_twice(rt.alloc(), twice.as_slice(), steps.as_slice())?;
@@ -186,8 +186,8 @@ const STEPS_AFTER_EARLIER_ONES: &[(&[i32], usize, bool)] = &[
         2,
         false,
     ),
-    // a step with a variable out of range is wrong, but a later step may have a hint to it, which can give the variable a
-    // value
+    // a step with a variable out of range is wrong, but a later step with a hint to its clause can be right, and this hint can
+    // give the variable a value
     (OUT_OF_RANGE, 0, false),
     (OUT_OF_RANGE, 2, true),
     (

@@ -79,7 +79,7 @@ impl Engine for Fake {
     }
 }
 
-/// A member of a roster. A walker has the number of flips that it may make.
+/// A member of a roster. `Walker` holds the number of flips that it may make.
 #[derive(Clone, Copy, Debug)]
 enum Member {
     Fake(Habit),

@@ -1,5 +1,6 @@
-// Clause lists that are solved, and a refutation that is trimmed: the steps that it does not use are left out. A list is given
-// by signed numbers of variables, with 0 at the end of each clause. A negative number stands for the negation of its variable.
+// Clause lists that are solved, and a refutation that is trimmed: the steps that its last step doesn't use, directly or through
+// others, are left out. A list is given by signed numbers of variables, with 0 at the end of each clause. A negative number
+// stands for the negation of its variable.
 use dd_clause::{Clause, Cnf, Literal, satisfies};
 use dd_derivation::{Marks, Outcome, Step, check_refutation};
 use dd_elimination::{solve_propagated, solve_reduced};
@@ -39,7 +40,7 @@ fn cnf_of(alloc: Global, variables: u8, numbers: &[i32]) -> Result<Cnf, AllocErr
 }
 
 /// Adds the pigeonhole clauses: each pigeon is in one of the holes, and no two pigeons share a hole. There is one more pigeon
-/// than holes. The variable `first + holes * p + h` says that the pigeon p is in the hole h.
+/// than there are holes. The variable `first + holes * p + h` says that pigeon p is in hole h.
 fn push_pigeonholes(numbers: &mut Vec<i32>, first: i32, holes: i32) -> Result<(), AllocError> {
     let variable = |pigeon: i32, hole: i32| {
         first
@@ -143,7 +144,7 @@ const CASES: &[(u8, usize, &[i32], &str)] = &[
     ),
 ];
 
-/// Asserts that the numbers give the wanted number of clauses, and that these clauses have the wanted answer.
+/// Asserts that the list that the numbers give has as many clauses as wanted, and that it has the wanted answer.
 fn assert_answer(
     rt: &impl Abort,
     alloc: Global,

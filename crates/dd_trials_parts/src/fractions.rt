@@ -1,4 +1,4 @@
-//! Exact fractions up to the edge of 128 bits.
+//! Exact fractions up to the limit of 128 bits.
 use dd_fraction::Fraction;
 use std::cmp::Ordering;
 use std::process::Abort;
@@ -102,8 +102,8 @@ const DIFFERENCES: &[(Pair, Pair, Pair, Option<Pair>)] = &[
     ((7, 6), (1, 2), (1, 3), Some((1, 1))),
     ((5, 7), (-2, 3), (1, 5), Some((89, 105))),
     ((1, 6), (1, 2), (1, 3), Some((0, 1))),
-    // A faster method is used if all numerators fit in 16 bits with a sign, and all denominators in 16 bits without a sign. The
-    // next two rows have the least such numerator. The second has denominators near 65535, the greatest such denominator.
+    // A faster method is used if all numerators fit in signed 16-bit numbers, and all denominators in unsigned ones. The next
+    // two rows have the least such numerator. The second has denominators near 65535, the greatest such denominator.
     (
         (-32768, 1),
         (-32768, 1),
@@ -123,8 +123,8 @@ const DIFFERENCES: &[(Pair, Pair, Pair, Option<Pair>)] = &[
     // Numbers of nearly 128 bits.
     ((-P126, 1), (P63, 1), (P63, 2), Some((-P126 - P126 / 2, 1))),
     ((MAX, 1), (P63, 1), (P63, 1), Some((MAX - P126, 1))),
-    // The difference of 2^127 - 1 and 2^127 fits, but the product 2^127 does not. In the next row the product fits, but the
-    // difference, -2^127, is greater than 2^127 - 1 in absolute value.
+    // In the first of the next two rows, the difference of 2^127 - 1 and 2^127 fits, but the product 2^127 doesn't. In the
+    // second, the product fits, but the difference, -2^127, is greater than 2^127 - 1 in absolute value.
     ((MAX, 1), (P64, 1), (P63, 1), None),
     ((-P126, 1), (P63, 1), (P63, 1), None),
 ];

@@ -5,8 +5,8 @@ use dd_outside::{
 };
 use std::test::Fail;
 
-// A row has the limit, the most bytes that a read gives, the number of the read that fails if it is made (0 for none), and the
-// result for the bytes `abcd`.
+// A row has the limit, the most bytes that a read gives, the number of the read that would fail (0 for none), and the result
+// for the bytes `abcd`.
 #[test]
 fn reads_to_the_end_within_a_limit(rt: HostRuntime) -> Result<(), Fail> {
     let alloc = rt.alloc();

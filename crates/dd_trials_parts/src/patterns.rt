@@ -1,6 +1,6 @@
 //! Symbols of periodic configurations and of fillings, and the order of periods and shears. A filling gives a symbol to each of
-//! finitely many cells. A periodic configuration repeats a box, which has the periods as its sides. With a shear, each copy of
-//! the box is moved to the right by the shear, relative to the copy below it.
+//! finitely many cells. A periodic configuration repeats a box whose sides are the periods. With a shear, each copy of the box
+//! is moved to the right by the shear, relative to the copy below it.
 ghost use Rattle.std.specs.Prelude.{◌≡◌, IfSome};
 
 use dd_lattice::{Cell, Position, in_order};
@@ -72,7 +72,7 @@ fn no_periodic_configurations(rt: HostRuntime) -> Result<(), Fail> {
         let list = Vec::from_slice(rt.alloc(), symbols)?;
         let back = Periodic::new(*dim, *periods, *shear, *nodes, list)
             .err()
-            .ok_or("no configuration")?;
+            .ok_or("a configuration was made")?;
         assert_eq!(rt; (*dim, back.as_slice()), (*dim, *symbols));
     }
     Ok(())

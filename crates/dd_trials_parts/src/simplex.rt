@@ -1,8 +1,8 @@
 //! Small linear programs. The variables of a program are its columns, which are at least 0. A row has a coefficient for each
 //! column. It says that the sum of the columns, each times its coefficient, is at most the row's bound. The cap is a bound on
-//! column 0, which is maximised. An answer is a fault or a solution. A solution has the greatest value, the columns at which
-//! it is taken, and the duals. These are factors for the cap and the rows, and they show that no value is greater. The results
-//! were worked out by a reference implementation with exact fractions, and by trying all vertices.
+//! column 0, which is maximised. An answer is a fault or a solution. A solution has the greatest value, values of the columns
+//! that attain it, and the duals. The duals are factors for the cap and the rows, and they show that no value is greater. The
+//! results were worked out by a reference implementation with exact fractions, and by trying all vertices.
 use dd_fraction::Fraction;
 use dd_simplex::{Program, SimplexFault, Solved, maximise};
 use std::alloc::{AllocError, Global};
@@ -102,7 +102,7 @@ const CASES: &[(&str, u32, i64, &str, u32, &str)] = &[
         "Overflow",
     ),
     (
-        "the limit comes before the numbers",
+        "the limit on pivots is reached before a number is too large",
         2,
         1,
         "18446744073709551616 1 1; 1 1/18446744073709551616 1",
@@ -158,7 +158,7 @@ const CASES: &[(&str, u32, i64, &str, u32, &str)] = &[
         "value 2 columns 2 0 0 duals 0 1",
     ),
     (
-        "only the cap limits",
+        "only the cap limits column 0",
         2,
         4,
         "-1 1 3; 0 1 2",
@@ -381,11 +381,11 @@ const CASES: &[(&str, u32, i64, &str, u32, &str)] = &[
         6,
         "Overflow",
     ),
-    // The dictionary has a line for the objective, and a line for each basic variable. A line writes the objective, or its
-    // variable, in terms of the variables that are not basic. The costs are the coefficients of the objective. The objective is
-    // column 0. So, once column 0 is basic, the line of the objective in the dictionary has the same numbers as the line of
-    // column 0. The line of column 0 is computed first, so the first number that doesn't fit is in this line. In the next six
-    // cases no line but these two has a number that is too large.
+    // The dictionary has a line for the objective, and a line for each basic variable. A line expresses the objective, or the
+    // line's basic variable, in terms of the variables that are not basic. The costs are the coefficients of the objective. The
+    // objective is column 0. So, once column 0 is basic, the line of the objective in the dictionary has the same numbers as
+    // the line of column 0. The line of column 0 is computed first, so the first number that doesn't fit is in this line. In
+    // the next six cases no line but these two has a number that is too large.
     (
         "first past 2^127: the product in the value, 9 * 2^124",
         2,
@@ -403,7 +403,7 @@ const CASES: &[(&str, u32, i64, &str, u32, &str)] = &[
         "value 4611686018427387904 columns 4611686018427387904 21267647932558653966460912964485513216/7 duals 1 0",
     ),
     (
-        "first past 2^127: the sum in the value, which is 2^127",
+        "first past 2^127 - 1: the sum in the value, which is 2^127",
         2,
         2,
         "1 -1 1/9223372036854775808",
@@ -419,7 +419,7 @@ const CASES: &[(&str, u32, i64, &str, u32, &str)] = &[
         "value 1 columns 1 9223372036854775807/9223372036854775808 duals 1 0",
     ),
     (
-        "first past 2^127: a product in the costs as the slack of the cap leaves, 9 * 2^124",
+        "first past 2^127: a product of 9 * 2^124 in the costs as the slack of the cap leaves",
         3,
         1,
         "1 -9/4611686018427387904 4611686018427387904 0",

@@ -129,8 +129,8 @@ fn written(alloc: Global, pieces: &[(&[u8], u32)]) -> Result<Vec<u8>, Fail> {
 
 // The depth of a formula is at most 64. An atom, such as `o=1`, has depth 0. Each `!`, quantifier, pair of parentheses and
 // connective (`&`, `|`, `->`, `<->`) is one deeper than its deepest part. All the `&` of a chain, or all the `|` of a chain,
-// count as one connective. Each row has the pieces of a text, each with how often it is repeated, and the number of the faulty
-// command, if there is one.
+// count as one connective. Each row has the pieces of a text, each with the number of times that it is repeated, and the number
+// of the faulty command, if there is one.
 #[test]
 fn depth_has_a_limit(rt: HostRuntime) -> Result<(), Fail> {
     let start: (&[u8], u32) = (b"%rule a ", 1);

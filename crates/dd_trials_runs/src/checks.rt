@@ -7,9 +7,9 @@ use std::alloc::Global;
 use std::process::Abort;
 use std::test::Fail;
 
-/// An output that a check accepts. Its one answer is YES, with 0, the radius of a box, and a refutation of six clauses in one
+/// An output that a check accepts. Its one answer is a YES, with the radius 0 of a box and a refutation of six clauses in one
 /// step. The line of the step has the literals of its clause, then a 0, its hints, a 0, its deletes, and a 0. A hint is the
-/// number of a clause by which the step is derived, and a delete is the number of a clause that is removed.
+/// number of a clause from which the step derives its clause, and a delete is the number of a clause that the step removes.
 pub(crate) const OUTPUT: &str =
     "diddy 1\nscript 34\n%dim 1\n%rule x o=0 & o=1\n%empty x\n\nquery 1 YES 0\nrefutation 1\nstep 0 6 3 4 2 0 0\nend\n";
 

@@ -21,7 +21,7 @@ pub enum Habit {
     NoSteps,
     /// The assignment in which all variables are false.
     AllFalse,
-    /// Memory runs out at the first call; later calls propose nothing.
+    /// Runs out of memory at the first call, and proposes nothing at later calls.
     NoMemoryAtFirst,
     /// Nothing at the first call, and a refutation without steps at each later call.
     ChangesItsMind,
@@ -135,16 +135,16 @@ pub const NO_ENGINES: &[Member] = &[];
 /// The engines of the program.
 pub const OF_PROGRAM: &[Member] = &[Member::Propagator, Member::Walker(10_000)];
 
-/// Runs a session over this input with these engines. Its words are given in `word`, separated by single spaces. Returns the
+/// Runs a session over this input with these engines. Its words are given in `text`, separated by single spaces. Returns the
 /// status of the session, and how many engines are left after it. The sink then holds what was written.
 pub fn session_over(
     alloc: Global,
-    word: &str,
+    text: &str,
     bytes: &[u8],
     members: &[Member],
     sink: &mut MemorySink,
 ) -> Result<(Status, usize), AllocError> {
-    let words = words_of(alloc, word)?;
+    let words = words_of(alloc, text)?;
     let mut source = MemorySource::new(Vec::from_slice(alloc, bytes)?, 7, Vec::new(alloc));
     let mut engines: Vec<Box<dyn Engine>> = Vec::new(alloc);
     for member in members {

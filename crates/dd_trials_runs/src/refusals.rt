@@ -47,7 +47,7 @@ const FAULTS_OF_NAMES: [(&[u8], &str); 16] = [
     (b"%rule a Ap[q1] p=1", "1 unknown q"),
     // A quantified variable is known only in the body of its quantifier.
     (b"%rule a Ap[p1] p=1", "1 unknown p"),
-    // An unknown name is reported before a repeated name and before a limit.
+    // An unknown name is reported rather than a repeated name or an exceeded limit.
     (b"%rule a o=0 %rule a o=2", "2 unknown 2"),
     (b"%rule a o=1000001", "1 unknown 1000001"),
     (b"%rule a o=0 %rule a o=1", "2 twice a"),
@@ -96,7 +96,7 @@ const FAULTS_OF_NODES_AND_SHEARS: [(&[u8], &str); 9] = [
     (b"%conf c [3 1] [-1] 0 1 0", "1 syntax"),
 ];
 
-// Numbers that are out of range, and other limits that are exceeded.
+// Numbers that are out of range, and texts that exceed other limits.
 const PAST_A_LIMIT: [(&[u8], &str); 16] = [
     (
         b"%rule aaaaaaaaaaaaaaaaaaaaaaaaaaaaaaaaa o=0",

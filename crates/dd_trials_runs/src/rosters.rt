@@ -107,7 +107,7 @@ fn an_engine_runs_out_of_memory(rt: HostRuntime) -> Result<(), Fail> {
 // of this box. The search asks about the radii 0 to 3, and the engine is given the lists of these boxes as they are, before
 // any variable is eliminated.
 #[test]
-fn engines_are_asked_for_the_boxes_themselves(rt: HostRuntime) -> Result<(), Fail> {
+fn engines_are_asked_about_the_boxes_themselves(rt: HostRuntime) -> Result<(), Fail> {
     let alloc = rt.alloc();
     let rows = [(2, 3, 0), (9, 18, 0), (19, 44, 0), (29, 70, 0), (39, 96, 1)];
     for (variables, clauses, left) in rows {

@@ -1,7 +1,7 @@
 //! Limits that more than one crate uses. Some answers are found by a search through boxes and tori. A box of radius n holds the
 //! positions whose coordinates are all from -n to n. A torus stands for the configurations with given periods along the axes
-//! and, perhaps, a shear, which says how far each repetition along the second axis is moved along the first. A pivot is a step
-//! of the simplex method.
+//! and, perhaps, a shear, which says how far each repetition along the second axis is shifted in the direction of the first
+//! axis. A pivot is a step of the simplex method.
 
 /// The greatest number of variables in a clause list, and in a circuit, where each input and each gate has a variable.
 pub const MOST_VARIABLES: u64 = 1 << 24;

@@ -8,8 +8,8 @@ use crate::bounds::{GREATEST_PERIOD, GREATEST_RADIUS, MOST_PIVOTS};
 #[derive(Clone, Copy, Debug, PartialEq, Eq)]
 pub struct Limits {
     /// The greatest radius of a box around the origin that the search tries. The search looks for a position with a given
-    /// property, the goal, such as that a rule is broken there. One box is tried even if its radius is greater: the smallest
-    /// box that holds all cells that the goal reads at the origin.
+    /// property, called the goal. For example, the goal may be that a rule is broken there. One box is tried even if its radius
+    /// is greater: the smallest box that holds all cells that the goal reads at the origin.
     pub radius: u32,
     /// The greatest period, along each axis, of the tori that the search tries.
     pub period: u32,

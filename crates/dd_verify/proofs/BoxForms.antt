@@ -4,7 +4,7 @@ use Rattle.std.specs.Prelude.{◌↔◌, Result, IfOk}
 use Rattle.dd_derivation.specs.declared.step.Step.{Step}
 use Rattle.dd_formula.specs.{LocalRule.LocalRule, LocalRule.IsRule, Living.Lives}
 use Rattle.dd_values.specs.{declared.limits.Limits.Limits, Ranges.AreLimits}
-use Rattle.dd_boxes.specs.Goals.{GoalOf, breaks, IsGoalFor, KeepsRule}
+use Rattle.dd_boxes.specs.Goals.{GoalOf, breaks, IsGoalFor, HasValidRule}
 use Rattle.dd_certificate.specs.declared.answer.{Side.Side, Reason.Reason, Answer.Answer}
 use Rattle.dd_certificate.specs.Bounds.{IsWritable, IsWritableRefutation}
 use Rattle.dd_pattern.specs.Tile.{Tile}
@@ -45,7 +45,7 @@ no_equal l x y a yes_form no_form open_form (right_no h) = no_form _ _ _ _ refl
 no_equal l x y a yes_form no_form open_form equal_unknown = open_form _ refl
 
 module _ (l : Limits) (x : LocalRule) (g : GoalOf) (limits : AreLimits l) (rule : IsRule x) where
-  pub yes_fits : (n : ℕ) (steps : List Step) → KeepsRule g → IsGoalFor x g → IsYes l x g n steps → IsWritableRefutation steps → IsWritable (answer.Yes n steps)
+  pub yes_fits : (n : ℕ) (steps : List Step) → HasValidRule g → IsGoalFor x g → IsYes l x g n steps → IsWritableRefutation steps → IsWritable (answer.Yes n steps)
   yes_fits n steps kept ok told fit = (radius_writable l x g n steps limits rule kept ok told, fit)
 
 -- an output can hold a NO to a single box question

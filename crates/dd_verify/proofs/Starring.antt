@@ -1,5 +1,5 @@
--- The claim of the minimal lists of a rule is true. A minimal list has minimal patterns of one node, which together forbid what the rule forbids there.
--- The test of whether two patterns are the same is right.
+-- What a certificate claims about the minimal lists of a rule is true. A minimal list has minimal patterns of one node, which together forbid what
+-- the rule forbids there. The test of whether two patterns are the same is right.
 use Rattle.std.proofs.Common.{◌≡◌, ℕ, ◌<◌, Bool, true, false, List, [], Some, None, refl, ap, sym, ◌∙◌}
 use Rattle.std.proofs.lemmas.{Bool.false≢true, Bool.Decides.Decides-eqb, Slice.Eq.slice_eq-Decides}
 use Rattle.std.specs.{Prelude.◌↔◌, Prelude.Option, Prelude.nat_eq, List.All, Bool.Decides, Option.option_eq, Cmp.Lexicographic.pointwise}

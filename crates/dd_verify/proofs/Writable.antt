@@ -7,7 +7,7 @@ use Rattle.dd_pattern.specs.{Periods.periods_volume, Tile.Tile, Tile.IsPeriodic}
 use Rattle.dd_derivation.specs.declared.step.Step.{Step}
 use Rattle.dd_formula.specs.{LocalRule.LocalRule, LocalRule.IsRule, Living.Fits}
 use Rattle.dd_values.specs.{declared.limits.Limits.Limits, Ranges.AreLimits}
-use Rattle.dd_boxes.specs.{Goals.GoalOf, Goals.IsGoalFor, Goals.KeepsRule, lemmas.ReachLaws.least_near}
+use Rattle.dd_boxes.specs.{Goals.GoalOf, Goals.IsGoalFor, Goals.HasValidRule, lemmas.ReachLaws.least_near}
 use Rattle.dd_certificate.specs.declared.answer.{Side.Side, Answer.Answer}
 use Rattle.dd_certificate.specs.Bounds.{IsWritable, IsWritableNumber, IsShearFor}
 use Rattle.dd_evidence.specs.{Cells.IsOutside, Tiles.given_periods}
@@ -25,7 +25,7 @@ module _ (fit : (x : LocalRule) (t : Tile) (place : List ℤ) → IsRule x → I
 
 -- ---- radii: the limit on radii and the least radius of a goal are small
 
-pub radius_writable : (l : Limits) (x : LocalRule) (g : GoalOf) (n : ℕ) (steps : List Step) → AreLimits l → IsRule x → KeepsRule g → IsGoalFor x g → IsYes l x g n steps → IsWritableNumber n
+pub radius_writable : (l : Limits) (x : LocalRule) (g : GoalOf) (n : ℕ) (steps : List Step) → AreLimits l → IsRule x → HasValidRule g → IsGoalFor x g → IsYes l x g n steps → IsWritableNumber n
 radius_writable l x g n steps limits rule kept ok told =
     let least = least_near x g told.least rule ok kept told.is_least in
     let most = limits.radius in

@@ -1,6 +1,6 @@
 //! The check of answers to conjugacy questions. A conjugacy question asks whether two maps between two subshifts are inverse to
-//! each other. It comes down to four box questions. The first two ask whether each map leads from its subshift into the other
-//! one. The last two ask whether each map, followed by the other one, leaves each configuration of its subshift as it is.
+//! each other. It comes down to four box questions. The first two ask whether each map takes its subshift into the other one.
+//! The last two ask whether each map, followed by the other one, leaves each configuration of its subshift as it is.
 ghost use Rattle.std.specs.Prelude.{[], ◌<◌, ◌↔◌, length, slice_index_or, IsTrue, IfOk};
 ghost use Rattle.dd_boxes.specs.Views.{goal_of};
 ghost use Rattle.dd_certificate.specs.declared.answer.Answer.TheVariants as answer;
@@ -24,8 +24,8 @@ use std::alloc::{AllocError, Global};
 /// The number of box questions that make up a conjugacy.
 const PARTS: usize = 4;
 
-/// Whether the radius and the steps with the index `number` certify a YES to the box question. If so, an output can hold the
-/// steps. Indices start at 0.
+/// Whether the radius and the steps with index `at` certify a YES to the box question. If so, an output can hold the steps.
+/// Indices start at 0.
 fn check_at(
     alloc: Global,
     premise: &Rule,
@@ -33,17 +33,17 @@ fn check_at(
     limits: &Limits,
     radii: &[u64],
     steps: &[Items<Step>],
-    number: usize,
+    at: usize,
 ) -> Result<bool, AllocError>
     requires askable { IsAskable limits.now premise.now (goal_of premise.now goal.now) }
-    requires radius { number < length radii.now }
-    requires steps { number < length steps.now }
+    requires radius { at < length radii.now }
+    requires steps { at < length steps.now }
     ensures exact { IfOk result (λ accepted. IsTrue accepted ↔
-        IsYes limits.now premise.now (goal_of premise.now goal.now) (slice_index_or radii.now number 0) (slice_index_or steps.now number [])) }
-    ensures writable { IfOk result (λ accepted. IsTrue accepted → IsWritableRefutation (slice_index_or steps.now number [])) }
+        IsYes limits.now premise.now (goal_of premise.now goal.now) (slice_index_or radii.now at 0) (slice_index_or steps.now at [])) }
+    ensures writable { IfOk result (λ accepted. IsTrue accepted → IsWritableRefutation (slice_index_or steps.now at [])) }
 {
-    let refutation = steps[number].as_slice();
-    check_yes(alloc, premise, goal, limits, radii[number], refutation)
+    let refutation = steps[at].as_slice();
+    check_yes(alloc, premise, goal, limits, radii[at], refutation)
 }
 
 /// Whether the radii and the steps certify a YES to each of the four box questions, and an output can hold them.

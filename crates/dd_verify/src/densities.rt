@@ -1,5 +1,5 @@
 //! The check of answers about the least density of a strip. A strip has periods along y and z, and no end along x. A
-//! configuration lives on the strip if it has allowed symbols, these two periods, any period along x and no shear, and obeys
+//! configuration lives on the strip if it has allowed symbols, these two periods, some period along x and no shear, and obeys
 //! the rule. Each symbol has a weight, and the density of a configuration is its weight per position. A certificate has a cycle
 //! (a closed walk through the strip's transfer graph, see `dd_transfer`), which stands for a configuration of the least
 //! density. It also has a number for each state of the graph, its potential. The potentials show that no cycle stands for a

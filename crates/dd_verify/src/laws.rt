@@ -1,5 +1,5 @@
 //! Laws which say that the claims of certificates are true. Each law is the contract of a function that does nothing.
-ghost use Rattle.dd_boxes.specs.Goals.{IsGoalFor, KeepsRule};
+ghost use Rattle.dd_boxes.specs.Goals.{IsGoalFor, HasValidRule};
 ghost use Rattle.dd_boxes.specs.Views.{goal_of};
 ghost use Rattle.dd_certificate.specs.declared.answer.Answer.{Answer as AnyAnswer};
 ghost use Rattle.dd_formula.specs.LocalRule.{LocalRule};
@@ -24,7 +24,7 @@ use dd_strips::{strip_empty, strip_least};
 /// the automata of the goal fit the premise, that the automata read only cells of the lattice, and that the gates made for
 /// their values (see `dd_compile`) compute these values.
 fn goal_facts(goal: &Goal)
-    ensures { (x : LocalRule) → IsGoalFor x (goal_of x goal.now) → KeepsRule (goal_of x goal.now) → HasGoalFacts x (goal_of x goal.now) }
+    ensures { (x : LocalRule) → IsGoalFor x (goal_of x goal.now) → HasValidRule (goal_of x goal.now) → HasGoalFacts x (goal_of x goal.now) }
 {
     match goal {
         Goal::Breaks(_) => {}

@@ -1,7 +1,7 @@
 //! The check of the minimal lists of a rule. A pattern gives allowed symbols to some, all or none of the cells that the rule
 //! reads at a node, and leaves the others out. It is forbidden if the rule is false there whatever allowed symbols the others
 //! have. A forbidden pattern is minimal if it is no longer forbidden once any further cell is left out. For each node,
-//! `dd_minimal` defines one list of such patterns, the minimal list. It need not have all minimal patterns, but its patterns
+//! `dd_minimal` defines one list of such patterns, the minimal list. It need not contain all minimal patterns, but its patterns
 //! together forbid exactly what the rule forbids at the node. An answer writes the minimal lists node by node.
 ghost use Rattle.std.specs.Prelude.{◌≡◌, ◌↔◌, IsTrue, IfOk};
 ghost use Rattle.dd_certificate.specs.Bounds.{IsWritable};

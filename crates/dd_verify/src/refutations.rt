@@ -3,7 +3,7 @@
 ghost use Rattle.std.specs.Prelude.{◌≤◌, ◌↔◌, IsTrue, IfOk};
 ghost use Rattle.dd_lattice.specs.Boxes.{centred, volume};
 ghost use Rattle.dd_boxes.specs.Goals.{IsGoalFor};
-ghost use Rattle.dd_boxes.specs.Boxes.{Reaches};
+ghost use Rattle.dd_boxes.specs.Boxes.{ReadsWithin};
 ghost use Rattle.dd_boxes.specs.Counts.{question_clauses, most_clauses};
 ghost use Rattle.dd_boxes.specs.Views.{goal_of};
 ghost use Rattle.dd_derivation.specs.Derivations.{IsRefuting};
@@ -29,7 +29,7 @@ fn refutes(
     steps: &[Step],
 ) -> Result<bool, AllocError>
     requires goal { IsGoalFor premise.now (goal_of premise.now goal.now) }
-    requires reaches { Reaches (goal_of premise.now goal.now) radius }
+    requires reaches { ReadsWithin (goal_of premise.now goal.now) radius }
     requires few { question_clauses premise.now (goal_of premise.now goal.now) (volume (centred premise.now.dimension radius)) ≤ most_clauses }
     ensures exact { IfOk result (λ refuted. IsTrue refuted ↔ IsRefuting (box_problem premise.now (goal_of premise.now goal.now) radius) steps.now) }
     ensures writable { IfOk result (λ refuted. IsTrue refuted → IsWritableRefutation steps.now) }
@@ -44,7 +44,7 @@ fn refutes(
     Ok(check_refutation(&cnf, steps, &mut marks))
 }
 
-/// Whether the radius is within the limits, and the steps refute the clauses of the box of this radius. If so, an output can
+/// Whether the radius is within its bounds, and the steps refute the clauses of the box of this radius. If so, an output can
 /// hold the steps. The goal's least radius is the radius of the smallest box round the origin with all cells that the goal
 /// reads at the origin. The radius must be at least this least radius, and at most the greater of the least radius and
 /// `limits.radius`.

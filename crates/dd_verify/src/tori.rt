@@ -87,7 +87,7 @@ fn has_weight(
 }
 
 /// Whether the steps refute certain clauses. These ask for a configuration of allowed symbols that lives in the rule's subshift
-/// and has these periods and no shear. If `below` is at least 1, they also ask that it weighs less than `below`. If the result
+/// and has these periods and no shear. If `below` is at least 1, they also require it to weigh less than `below`. If the result
 /// is true, an output can hold the steps.
 fn refutes_below(
     alloc: Global,

@@ -66,7 +66,7 @@ join_rank Join.Or = 2
 join_rank Join.Implies = 3
 join_rank Join.Iff = 4
 
--- Whether a formula may stand at a place without parentheses, given the places at which its parts may stand. Each part must be able to stand at the
+-- Whether a formula may stand without parentheses at a place, given the places at which its parts may stand. Each part must be able to stand at the
 -- part's own place. A quantifier must have at least one ball. A chain must have at least two parts, and it may stand only at the rank of its sign and
 -- at looser places.
 abbrev pub stands_step : Formula-F (ℕ → Bool) → ℕ → Bool

@@ -6,7 +6,7 @@ pub mod Lexemes
 pub mod Values
 -- formulas, their texts and their depths
 pub mod Formulas
--- the readers as functions: what each one reads from the front of some tokens
+-- the readers: what each one reads from the front of some tokens
 pub mod reading
 -- lemmas on these definitions, for other crates
 pub mod lemmas

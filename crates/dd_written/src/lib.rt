@@ -8,10 +8,10 @@
 //! direction. The ball of radius r around a cell consists of the cells that a path of at most r edges joins to it.
 //!
 //! A sign is `&`, `|`, `->` or `<->`, and a chain is two or more formulas with the same sign between them. The depth of an
-//! atom, a formula without parts, is 0. Each `!`, quantifier, pair of parentheses and sign is one deeper than its deepest
-//! part. All the `&` of a chain count as one sign, and so do all the `|` of a chain. The signs `->` of a chain group to the
-//! right, and the signs `<->` to the left. The text of a word or a number is its bytes, but the text of a formula is the list
-//! of its lexemes.
+//! atom, a formula without parts, is 0. Each `!`, quantifier, pair of parentheses or sign makes a formula one deeper than its
+//! deepest part. All the `&` of a chain count as one sign, and so do all the `|` of a chain. The signs `->` of a chain group to
+//! the right, and the signs `<->` to the left. The text of a word or a number is its bytes, but the text of a formula is the
+//! list of its lexemes.
 #![tactic(auto)]
 
 mod depth;

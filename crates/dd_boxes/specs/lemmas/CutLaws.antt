@@ -1,4 +1,4 @@
--- The part of a filling that lies in a moved box. Also that a box lies in Z^d, and that a larger box contains a smaller one.
+-- The part of a filling that lies in a moved box. Also, a box lies in Z^d, and a larger box contains a smaller one.
 use Rattle.std.proofs.Common.{◌≡◌, ℕ, ◌≤◌, Bool, true, false, refl, ap, sym, ◌∙◌, None, arith, ℤ, pos}
 use Rattle.std.proofs.lemmas.Int.{ints}
 use Rattle.std.proofs.lemmas.Bool.{and_parts, and_from, cond_both, leb-true, le-leb}
@@ -10,7 +10,7 @@ use Rattle.dd_lattice.specs.declared.position.Cell.{Cell}
 use Rattle.dd_pattern.specs.Reading.{Look}
 use Rattle.dd_expansion.specs.{Placed.is_flat, lemmas.Placed.sum_is_zero, lemmas.Placed.sum_on_axis, lemmas.Placed.flat_moved}
 use Rattle.dd_formula.specs.{LocalRule.LocalRule, LocalRule.rule_allows, LocalRule.reads_at, Allowed.AreAllowed}
-use Rattle.dd_boxes.specs.Fillings.{place_fits, Admissible, is_up_to, in_box, is_cell_in_box, is_box_cell, IsBoxFilling}
+use Rattle.dd_boxes.specs.Fillings.{rule_fits, Admissible, is_up_to, in_box, is_cell_in_box, is_box_cell, IsBoxFilling}
 use Rattle.dd_boxes.specs.Boxes.{Covers}
 use Rattle.dd_boxes.specs.lemmas.RuleLaws.{from_place, shifted_twice, reads_given, keeps_at, list_all_weaker}
 use Rattle.dd_values.specs.lemmas.Booleans.{cond_domain}
@@ -72,7 +72,7 @@ pub cut_is_filling : (x : LocalRule) (n : ℕ) (look : Look) (v : Place) → Are
 cut_is_filling x n look v ok covers =
     record { domain = λ c. cond_domain (is_box_cell x n c) (look (shifted v c)) (covers c); allowed = cut_allowed x n look v ok }
 
--- where the cut has a symbol at a cell relative to u, the filling has this symbol at the same cell relative to u + v
+-- if the cut has a symbol at the cell c, taken relative to u, the filling has the same symbol at c, taken relative to u + v
 pub cut_near : (x : LocalRule) (n : ℕ) (look : Look) (u v : Place) (c : Cell) → is_some (from_place (cut x n look v) u c) ≡ true →
     from_place (cut x n look v) u c ≡ from_place look (moved u v) c
 cut_near x n look u v c h = cut_agrees x n look v (shifted u c) h ∙ ap look (shifted_twice u v c)
@@ -80,7 +80,7 @@ cut_near x n look u v c h = cut_agrees x n look v (shifted u c) h ∙ ap look (s
 cut_some : (x : LocalRule) (n : ℕ) (look : Look) (u v : Place) (c : Cell) → is_some (from_place (cut x n look v) u c) ≡ true → is_some (from_place look (moved u v) c) ≡ true
 cut_some x n look u v c h = ap is_some (sym (cut_near x n look u v c h)) ∙ h
 
-cut_fits : (x : LocalRule) (n : ℕ) (look : Look) (u v : Place) (a : ℕ) → place_fits x (cut x n look v) (cell u a) ≡ true → place_fits x look (cell (moved u v) a) ≡ true
+cut_fits : (x : LocalRule) (n : ℕ) (look : Look) (u v : Place) (a : ℕ) → rule_fits x (cut x n look v) (cell u a) ≡ true → rule_fits x look (cell (moved u v) a) ≡ true
 cut_fits x n look u v a h =
     let less = cut x n look v in
     let both = and_parts (is_some (less (cell u a))) (reads_given x less u a) h in

@@ -10,7 +10,7 @@ use Rattle.dd_formula.specs.{LocalRule.LocalRule, LocalRule.reads_at, Allowed.Ha
 use Rattle.dd_formula.specs.{Automata.CommonNumbers, Automata.value, Automata.counted, declared.automaton.Automaton.Automaton}
 use Rattle.dd_boxes.specs.Goals.{GoalOf, breaks, differ, always, HasGoal, AreAlike, AreOver, IsGoalFor}
 use Rattle.dd_boxes.specs.Fillings.{in_box, is_box_cell, is_cell_within, IsConfiguration}
-use Rattle.dd_boxes.specs.Boxes.{origin, Suffices, Reaches, IsLeastRadius, Covers, Never, IsInNoConfiguration, IsInNoTile, HoldsNowhere}
+use Rattle.dd_boxes.specs.Boxes.{origin, Suffices, ReadsWithin, IsLeastRadius, Covers, Never, IsInNoConfiguration, IsInNoTile, HoldsNowhere}
 use Rattle.dd_boxes.specs.lemmas.RuleLaws.{from_place, moved_from_origin, reads_given, keeps_at, value_keeps, list_all_weaker}
 use Rattle.dd_boxes.specs.lemmas.CutLaws.{flat_box, wider_box, wider_cells, cut, cut_is_filling, cut_near, cut_admissible}
 use Rattle.dd_values.specs.lemmas.Booleans.{cond_domain}
@@ -34,12 +34,12 @@ cut_has x n look v covers p same ds reach =
     (λ c h. ap (λ d. is_some (cut x n look v d)) (shifted_by_origin c)
     ∙ (cond_domain (is_box_cell x n c) (look (shifted v c)) (covers c) ∙ (sym (same c) ∙ h))) ds reach
 
-cut_reads : (x y : LocalRule) (n : ℕ) (look : Look) (v : Place) (a : ℕ) → AreAlike x y → a < y.nodes → Reaches (breaks y) n → Covers x n look v →
+cut_reads : (x y : LocalRule) (n : ℕ) (look : Look) (v : Place) (a : ℕ) → AreAlike x y → a < y.nodes → ReadsWithin (breaks y) n → Covers x n look v →
     reads_given y (cut x n look v) origin a ≡ true
 cut_reads x y n look v a same node reach covers = cut_has x n look v covers (is_box_cell y n) (λ c. box_alike x y n c same) (reads_at y a) (reach a node)
 
 -- two automata whose values differ at v in the filling have different values at the origin in the cut
-differ_at_origin : (x : LocalRule) (s : CommonNumbers) (f g : Automaton) (n : ℕ) (look : Look) (v : Place) (a : ℕ) → AreOver x s f g → a < s.nodes → Reaches (differ s f g) n →
+differ_at_origin : (x : LocalRule) (s : CommonNumbers) (f g : Automaton) (n : ℕ) (look : Look) (v : Place) (a : ℕ) → AreOver x s f g → a < s.nodes → ReadsWithin (differ s f g) n →
     Covers x n look v → (value f look (cell v a) ≡ value g look (cell v a) → ⊥) →
     value f (cut x n look v) (cell origin a) ≡ value g (cut x n look v) (cell origin a) → ⊥
 differ_at_origin x s f g n look v a over node reach covers apart same =
@@ -52,7 +52,7 @@ differ_at_origin x s f g n look v a over node reach covers apart same =
     apart (sym left ∙ (same ∙ right))
 
 -- a goal that holds at v in the filling holds at the origin in the cut
-goal_at_origin : (x : LocalRule) (g : GoalOf) (n : ℕ) (look : Look) (v : Place) → IsGoalFor x g → Reaches g n → Covers x n look v → HasGoal g look v →
+goal_at_origin : (x : LocalRule) (g : GoalOf) (n : ℕ) (look : Look) (v : Place) → IsGoalFor x g → ReadsWithin g n → Covers x n look v → HasGoal g look v →
     HasGoal g (cut x n look v) origin
 goal_at_origin x (breaks y) n look v ok reach covers there = (
   there.0,
@@ -63,7 +63,7 @@ goal_at_origin x (differ s f g) n look v ok reach covers there =
     (there.0, there.1, differ_at_origin x s f g n look v there.0 ok there.1 reach covers there.2)
 goal_at_origin x always n look v ok reach covers there = tt
 
-pub never_from_box : (x : LocalRule) (g : GoalOf) (n : ℕ) → IsGoalFor x g → Reaches g n → Suffices x g n → Never x g n
+pub never_from_box : (x : LocalRule) (g : GoalOf) (n : ℕ) → IsGoalFor x g → ReadsWithin g n → Suffices x g n → Never x g n
 never_from_box x g n ok reach suffices = record {
   reaches = reach;
   nowhere = λ look below admissible v flat covers there.
@@ -97,13 +97,13 @@ pub never_in_tile : (x : LocalRule) (g : GoalOf) (n : ℕ) → Never x g n → I
 never_in_tile x g n never t ok fit allowed lives v flat there =
     never_in_configuration x g n never (tile_look t) (tile_is_configuration x t ok fit allowed) lives v flat there
 
-pub holds_nowhere : (x : LocalRule) (g : GoalOf) (n : ℕ) → IsGoalFor x g → Reaches g n → Suffices x g n → HoldsNowhere x g n
+pub holds_nowhere : (x : LocalRule) (g : GoalOf) (n : ℕ) → IsGoalFor x g → ReadsWithin g n → Suffices x g n → HoldsNowhere x g n
 holds_nowhere x g n ok reach suffices =
     let never = never_from_box x g n ok reach suffices in
     record { never = never; configurations = never_in_configuration x g n never; tiles = never_in_tile x g n never }
 
 -- if a box contains what the goal reads, so does each larger box; if it also suffices, each larger box suffices as well
-pub reaches_more : (g : GoalOf) (n m : ℕ) → n ≤ m → Reaches g n → Reaches g m
+pub reaches_more : (g : GoalOf) (n m : ℕ) → n ≤ m → ReadsWithin g n → ReadsWithin g m
 reaches_more (breaks y) n m le reach = λ a node. list_all_weaker (is_box_cell y n) (is_box_cell y m) (λ c h. wider_box y n m c le h) (reads_at y a) (reach a node)
 reaches_more (differ s f g) n m le reach = λ a node.
     let more = λ (c : Cell) (h : is_cell_within s n c ≡ true). wider_cells s.dimension s.nodes n m c le h in (
@@ -112,7 +112,7 @@ reaches_more (differ s f g) n m le reach = λ a node.
     )
 reaches_more always n m le reach = tt
 
-pub suffices_more : (x : LocalRule) (g : GoalOf) (n m : ℕ) → IsGoalFor x g → Reaches g n → n ≤ m → Suffices x g n → Suffices x g m
+pub suffices_more : (x : LocalRule) (g : GoalOf) (n m : ℕ) → IsGoalFor x g → ReadsWithin g n → n ≤ m → Suffices x g n → Suffices x g m
 suffices_more x g n m ok reach le suffices look filling admissible there =
     (never_from_box x g n ok reach suffices).nowhere look filling.allowed admissible origin (flat_origin (nat_lt 1 x.dimension) (nat_lt 2 x.dimension))
     (λ c h. ap (λ d. is_some (look d)) (shifted_by_origin c) ∙ (filling.domain c ∙ wider_box x n m c le h)) there
@@ -124,5 +124,5 @@ suffices_more x g n m ok reach le suffices look filling admissible there =
     flat_origin false false = refl
 
 -- a box whose radius is at least the least radius contains what the goal reads
-pub from_least : (g : GoalOf) (least n : ℕ) → IsLeastRadius g least → least ≤ n → Reaches g n
+pub from_least : (g : GoalOf) (least n : ℕ) → IsLeastRadius g least → least ≤ n → ReadsWithin g n
 from_least g least n is le = reaches_more g least n le is.reaches

@@ -11,7 +11,7 @@ use Rattle.dd_formula.specs.Reach.{reach, automaton_reach}
 use Rattle.dd_formula.specs.{Automata.CommonNumbers, Automata.IsAutomaton, Automata.counted, Automata.is_cell_of, Values.IsPlaced}
 use Rattle.dd_formula.specs.{declared.automaton.Automaton.Automaton, lemmas.AutomatonLaws.near_reads}
 use Rattle.dd_formula.specs.lemmas.ReachLaws.{is_within, reads_within, reach_within, reach_near, automaton_reads_within, automaton_reach_within}
-use Rattle.dd_boxes.specs.Goals.{GoalOf, breaks, differ, always, IsGoalFor, KeepsRule}
+use Rattle.dd_boxes.specs.Goals.{GoalOf, breaks, differ, always, IsGoalFor, HasValidRule}
 use Rattle.dd_boxes.specs.Fillings.{is_up_to, in_box, is_cell_in_box, is_box_cell, is_cell_within}
 use Rattle.dd_boxes.specs.{Boxes.goal_reach, Boxes.IsLeastRadius, lemmas.RuleLaws.list_all_weaker}
 use Rattle.dd_boxes.specs.lemmas.CutLaws.{box_parts, flat_box}
@@ -123,7 +123,7 @@ pub least_is_none : (least : ℕ) → IsLeastRadius always least → least ≡ 0
 least_is_none least is = let down : least ≤ 0 = is.least 0 tt in omega (arith, down)
 
 -- the least radius of a goal is how far it reads
-pub least_is_goal_reach : (x : LocalRule) (g : GoalOf) (least : ℕ) → IsRule x → IsGoalFor x g → KeepsRule g → IsLeastRadius g least → least ≡ goal_reach g
+pub least_is_goal_reach : (x : LocalRule) (g : GoalOf) (least : ℕ) → IsRule x → IsGoalFor x g → HasValidRule g → IsLeastRadius g least → least ≡ goal_reach g
 least_is_goal_reach x (breaks y) least rule goal kept is = least_is_reach y least kept is
 least_is_goal_reach x (differ s f g) least rule goal kept is =
     let some : 1 ≤ s.dimension = subst (λ d. 1 ≤ d) (sym goal.dimension) rule.dimension.0 in
@@ -131,7 +131,7 @@ least_is_goal_reach x (differ s f g) least rule goal kept is =
 least_is_goal_reach x always least rule goal kept is = least_is_none least is
 
 -- no goal reads farther than `most_reach`, the greatest reach that rules and automata may have
-pub goal_near : (x : LocalRule) (g : GoalOf) → IsGoalFor x g → KeepsRule g → goal_reach g ≤ most_reach
+pub goal_near : (x : LocalRule) (g : GoalOf) → IsGoalFor x g → HasValidRule g → goal_reach g ≤ most_reach
 goal_near x (breaks y) goal kept = reach_near y kept
 goal_near x (differ s f g) goal kept =
     let left = automaton_reach_within f s.nodes most_reach (near_reads s f goal.left) in
@@ -139,5 +139,5 @@ goal_near x (differ s f g) goal kept =
     omega (arith, left, right)
 goal_near x always goal kept = omega arith
 
-pub least_near : (x : LocalRule) (g : GoalOf) (least : ℕ) → IsRule x → IsGoalFor x g → KeepsRule g → IsLeastRadius g least → least ≤ most_reach
+pub least_near : (x : LocalRule) (g : GoalOf) (least : ℕ) → IsRule x → IsGoalFor x g → HasValidRule g → IsLeastRadius g least → least ≤ most_reach
 least_near x g least rule goal kept is = subst (λ n. n ≤ most_reach) (sym (least_is_goal_reach x g least rule goal kept is)) (goal_near x g goal kept)

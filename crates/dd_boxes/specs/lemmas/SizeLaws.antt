@@ -1,5 +1,5 @@
--- If the bound on the number of a question's clauses is at most `most_clauses` on its largest region, it is at most that on each
--- region with no more positions, such as each smaller box. Also how many positions a box has.
+-- Let the bound on the number of a question's clauses be at most `most_clauses` on its largest region. Then it is also at most `most_clauses` on each
+-- region with no more positions, such as each smaller box. The file also counts the positions of a box.
 use Rattle.std.proofs.Common.{◌≡◌, ℕ, zero, suc, ◌+◌, ◌*◌, ◌^◌, ◌≤◌, ap, ◌∙◌, arith, pos}
 use Rattle.std.proofs.{Math.Nat.pow-zero, Math.Nat.pow-suc, lemmas.Int.ints, lemmas.Nat.mul-le}
 use Rattle.std.specs.Prelude.{◌-ℤ◌}

@@ -3,7 +3,7 @@ use Rattle.std.proofs.Common.{◌≡◌, ℕ, ◌<◌, List, [], ◌∷◌, ◌+
 use Rattle.dd_commands.specs.Tree.{Word, Lexeme, Name, Head, Case, Command}
 use Rattle.dd_written.specs.{Formulas.text, Formulas.name_lexeme, lemmas.Many.few_items}
 use Rattle.dd_written.specs.reading.Laws.{FormulasAreRead}
-use Rattle.dd_commands.specs.{Heads.head_text, Heads.head_of, Heads.kind_text}
+use Rattle.dd_commands.specs.{Heads.head_text, Heads.head_of, Heads.topology_text}
 use Rattle.dd_commands.specs.Commands.{vector_text, second_vector_text, edge_text, BeginsWith, IsCase, AreCases, IsBody, IsCommand}
 use Rattle.dd_commands.specs.reading.{Forms.Form, Forms.made, Forms.both, Forms.◌▸◌, Forms.each_at, Vectors.word_at, Vectors.name, Vectors.plain}
 use Rattle.dd_commands.specs.reading.Commands.{keyword, heads, kinds, wanted, formula, case_parts, case_at, automaton_at, body, command_of}
@@ -65,8 +65,8 @@ module _ (law : FormulasAreRead) where
     body_sound Head.Nodes tokens c e = spelled _ _ tokens c names_read e (λ ns is at. (refl, (is.0, at ∙ append-nil _)))
     body_sound Head.Alphabet tokens c e = spelled _ _ tokens c names_read e (λ ns is at. (refl, (is.0, at ∙ append-nil _)))
     body_sound Head.Topology (Lexeme.Word v ∷ tokens) c e =
-        let m = made_is (λ k. Command.Topology k) (keyword kind_text kinds bytes) (Lexeme.Word v ∷ tokens) c [] e in
-        subst (Spelled Head.Topology (Lexeme.Word v ∷ tokens)) m.2 (refl, keyword_written kind_text kinds bytes (Lexeme.Word v ∷ tokens) m.0 [] m.1)
+        let m = made_is (λ k. Command.Topology k) (keyword topology_text kinds bytes) (Lexeme.Word v ∷ tokens) c [] e in
+        subst (Spelled Head.Topology (Lexeme.Word v ∷ tokens)) m.2 (refl, keyword_written topology_text kinds bytes (Lexeme.Word v ∷ tokens) m.0 [] m.1)
     body_sound Head.Topology tokens c e = spelled (λ es. Command.Edges es) _ tokens c edges_read e (λ es is at. (refl, (is.0, at ∙ append-nil _)))
     body_sound Head.Only tokens c e = spelled _ _ tokens c (then_reads name_reads (λ y rest is. tt) names_read) e (λ x is at. (refl, (is.1.0, rw append-nil at at)))
     body_sound Head.Weights tokens c e = spelled _ _ tokens c numbers_read e (λ ns is at. (refl, (is.0, at ∙ append-nil _)))

@@ -4,7 +4,7 @@ use Rattle.std.specs.Option.{option_or, option_map}
 use Rattle.std.proofs.lemmas.{Grind.common_steps, List.Concat.flat_map_single, Option.some_pair_parts, Slice.Eq.bytes_eq-Decides}
 use Rattle.dd_commands.specs.Tree.{Kind, Lexeme, Name, Lists, QueryKind, Head, Vector}
 use Rattle.dd_written.specs.{Values.word_text, Formulas.name_lexeme, reading.Atoms.name_at}
-use Rattle.dd_commands.specs.{Table.row, Table.kind_word, Table.query_kinds, Heads.head_text, Heads.kind_text, Commands.vector_text, Commands.edge_text, Commands.BeginsWith, Commands.IsOnePlain, Commands.AreLists}
+use Rattle.dd_commands.specs.{Table.row, Table.kind_word, Table.query_kinds, Heads.head_text, Heads.topology_text, Commands.vector_text, Commands.edge_text, Commands.BeginsWith, Commands.IsOnePlain, Commands.AreLists}
 use Rattle.dd_commands.specs.reading.Forms.{Reader, single, ◌▸◌, some, exactly}
 use Rattle.dd_commands.specs.reading.Vectors.{word_at, number_at, vector, plain, edge}
 use Rattle.dd_commands.specs.reading.Commands.{one_of, keyword, heads, other_heads, kinds, wanted, names, one_plain, lists_at, listed}
@@ -47,7 +47,7 @@ head_first (Head.Query QueryKind.Member) = refl
 head_first h = refl
 
 -- of the built-in topologies with the same name as k, k comes first in the list; so no two have the same name
-pub kind_first : (k : Kind) → one_of kind_text kinds (kind_text k) ≡ Some k
+pub kind_first : (k : Kind) → one_of topology_text kinds (topology_text k) ≡ Some k
 kind_first Kind.Line = refl
 kind_first k = refl
 

@@ -4,7 +4,7 @@ use Rattle.std.specs.List.{flat_map}
 use Rattle.dd_commands.specs.Tree.{Word, Name, Kind, Lexeme, Formula, Lists, Head, Vector, Case, Command}
 use Rattle.dd_written.specs.{Values.word_text, Formulas.name_lexeme, Formulas.text, Formulas.IsWrittenFormula}
 use Rattle.dd_written.specs.reading.{Atoms.name_at, Formulas.formula_at, Formulas.ends}
-use Rattle.dd_commands.specs.{Table.row, Table.query_kinds, Heads.head_text, Heads.kind_text, Commands.vector_text, Commands.AreLists}
+use Rattle.dd_commands.specs.{Table.row, Table.query_kinds, Heads.head_text, Heads.topology_text, Commands.vector_text, Commands.AreLists}
 use Rattle.dd_commands.specs.reading.Forms.{◌>>=◌, Reader, Form, made, both, ◌▸◌, such, each_at, some_at, some, exactly, alone}
 use Rattle.dd_commands.specs.reading.Vectors.{word_at, word, number_at, number, name, vector, plain, shear, edge}
 
@@ -73,7 +73,7 @@ abbrev pub body : List ℕ → Head → Reader Command
 body bytes Head.Dimension tokens = made (λ n. Command.Dimension n) number_at tokens
 body bytes Head.Nodes tokens = made (λ ns. Command.Nodes ns) names.item tokens
 body bytes Head.Alphabet tokens = made (λ ns. Command.Alphabet ns) names.item tokens
-body bytes Head.Topology (Lexeme.Word w ∷ tokens) = made (λ k. Command.Topology k) (keyword kind_text kinds bytes) (Lexeme.Word w ∷ tokens)
+body bytes Head.Topology (Lexeme.Word w ∷ tokens) = made (λ k. Command.Topology k) (keyword topology_text kinds bytes) (Lexeme.Word w ∷ tokens)
 body bytes Head.Topology tokens = made (λ es. Command.Edges es) (some_at edge.item) tokens
 body bytes Head.Only tokens = made (λ x. Command.Only x.0 x.1) (name ▸ names).item tokens
 body bytes Head.Weights tokens = made (λ ns. Command.Weights ns) (some_at number_at) tokens

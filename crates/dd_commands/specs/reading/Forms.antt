@@ -10,7 +10,7 @@ pub record Form (X : Type 0) : Type 1 where
   pub onto : X → List Lexeme → List Lexeme
   -- which items have this form
   pub is : X → Type 0
-  -- which tokens may follow an item, so that its reader stops there
+  -- which tokens may follow an item; its reader stops before them
   pub ends : List Lexeme → Type 0
   -- the reader of an item
   pub item : Reader X

@@ -47,7 +47,7 @@ vector =
     by_text vector_text
     (made (λ x. record { entries = x.1.0 }) (sign Mark.OpenList ▸ each (map entry_lexeme) entry_at ▸ sign Mark.CloseList).item)
 
--- a vector without negative numbers
+-- the form of a vector without negative numbers
 abbrev pub plain : Form Vector
 plain = such (λ v. is_plain v ≡ true) is_plain vector
 

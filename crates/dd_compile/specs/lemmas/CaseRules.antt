@@ -20,7 +20,7 @@ use Rattle.dd_compile.specs.Wiring.{Wiring, signals_of}
 use Rattle.dd_compile.specs.Compiling.{Extends, AllMade, Maker, all_made, certain, wires_near, compiled, gate_count}
 use Rattle.dd_compile.specs.RuleSignals.{SaysTruth, TellsReads, is_signal, are_signals, are_reads_wired}
 use Rattle.dd_compile.specs.ValueGates.{fresh, choices, giving, symbol_gates, given_symbols, rules_made, given_made}
-use Rattle.dd_compile.specs.ValueSignals.{HasCasesSymbols, AreCasesWired, CasesSay, SaysCases, are_wired_there}
+use Rattle.dd_compile.specs.ValueSignals.{HasCasesSymbols, AreCasesWired, TellsRules, SaysCases, are_wired_there}
 use Rattle.dd_compile.specs.lemmas.{Progress.size-append, Progress.Extends-trans, MadeCount.made_count}
 use Rattle.dd_compile.specs.lemmas.ChoiceLaws.{pick, picked, chosen_says, gates_say, fresh_length, fresh_in_range, choices_length}
 use Rattle.dd_compile.specs.lemmas.CaseGates.{itself, next_is, taken_is}
@@ -77,7 +77,7 @@ pub record Ruling (w : Wiring) (c : Cases) (at : Cell) (i : ℕ) (start now : Ne
   pub gates_left : start.gates ++ (rules_made w at c.cases (size start)).gates ≡ now.gates ++ (rules_made w at (drop i c.cases) (size now)).gates
   pub count_left : size now + length (rules_made w at (drop i c.cases) (size now)).gates ≡ size start + length (rules_made w at c.cases (size start)).gates
   pub in_range : All (IsSignal (size now)) signals
-  pub says : CasesSay now w c at (take i c.cases) signals
+  pub says : TellsRules now w c at (take i c.cases) signals
 
 pub ruling_start : (w : Wiring) (c : Cases) (at : Cell) (start : Network) (signals : List Signal) → signals ≡ [] → Ruling w c at 0 start start signals
 ruling_start w c at start signals none = record {
@@ -150,7 +150,7 @@ module _ (w : Wiring) (c : Cases) (at : Cell) (i : ℕ) (start now : Network) (s
 pub record Ruled (w : Wiring) (c : Cases) (at : Cell) (start now : Network) (signals : List Signal) : Type 0 where
   pub gates : now.gates ≡ start.gates ++ (rules_made w at c.cases (size start)).gates
   pub signals_are : signals ≡ (rules_made w at c.cases (size start)).signals
-  pub says : CasesSay now w c at c.cases signals
+  pub says : TellsRules now w c at c.cases signals
 
 append-none : {X : Type 0} (xs : List X) → xs ++ [] ≡ xs
 append-none [] = refl
@@ -161,7 +161,7 @@ ruling_end w c at i start now signals p past =
     let none = ap (λ xs. rules_made w at xs (size now)) (drop_all i c.cases past) in record {
       gates = sym (p.gates_left ∙ (ap (λ (m : AllMade). now.gates ++ m.gates) none ∙ append-none now.gates));
       signals_are = sym (p.signals_left ∙ (ap (λ (m : AllMade). signals ++ m.signals) none ∙ append-none signals));
-      says = subst (λ xs. CasesSay now w c at xs signals) (take_all i c.cases past) p.says;
+      says = subst (λ xs. TellsRules now w c at xs signals) (take_all i c.cases past) p.says;
     }
 
 range_long : (j m : ℕ) → length (range_with_len j m) ≡ m
@@ -222,7 +222,7 @@ module _ (k : ℕ) (c : Cases) (w : Wiring) (at : Cell) (start one two new : Net
         let l : length (symbol_gates k xs chosen) ≡ k = length-map (range_with_len 0 k) (λ s. Or (giving s xs chosen)) ∙ range_long 0 k in
         subst (All (IsSignal (size new))) (sym h.signals_are) (fresh_in_range (size two) k (size new) (omega (arith, n, l)))
 
-    pub value_says : HasCasesSymbols c k at.node → CasesSay one w c at c.cases rules → SaysCases new w k c at signals
+    pub value_says : HasCasesSymbols c k at.node → TellsRules one w c at c.cases rules → SaysCases new w k c at signals
     value_says has says = record {
       one_each = ap length h.signals_are ∙ fresh_length (size two) k;
       says = λ set look agreed below tells s x wire.
@@ -305,7 +305,7 @@ pub record Answer (k : ℕ) (c : Cases) (w : Wiring) (at : Cell) (start new : Ne
 
 pub value_answer : (k : ℕ) (c : Cases) (w : Wiring) (at : Cell) (start one two new : Network) (rules chosen : List Signal) (xs : List ℕ) {T E : Type 0} (items : T → List Signal) (r : Result T E) →
     HasCasesSymbols c k at.node → Extends start one → one.gates ≡ start.gates ++ (rules_made w at c.cases (size start)).gates → rules ≡ (rules_made w at c.cases (size start)).signals →
-    CasesSay one w c at c.cases rules → Extends one two → two.gates ≡ one.gates ++ choices [] rules → chosen ≡ fresh (size one) (length (choices [] rules)) → xs ≡ given_symbols c.cases c.otherwise →
+    TellsRules one w c at c.cases rules → Extends one two → two.gates ≡ one.gates ++ choices [] rules → chosen ≡ fresh (size one) (length (choices [] rules)) → xs ≡ given_symbols c.cases c.otherwise →
     Extends two new → IfOk r (λ _. new.gates ≡ two.gates ++ symbol_gates k xs chosen) → IfOk r (λ v. items v ≡ fresh (size two) k) → Answer k c w at start new items r
 value_answer k c w at start one two new rules chosen xs items (Err e) has first rules_gates rules_are says second choice_gates chosen_are given_are third gates signals =
     record { gates = tt; signals = tt; in_range = tt; says = tt }

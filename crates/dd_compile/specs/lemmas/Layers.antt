@@ -98,7 +98,7 @@ or_asks n w e fs parts is same =
     let c = ap gate_count is ∙ count_or fs in
     rw same (record { smaller = omega (arith, i); few = omega (arith, c); wired = λ h. sym (ap (are_wired n w) is ∙ wired_or n w fs) ∙ h })
 
--- the same for the second side of an equivalence; there are n variables before the gates of the first side, and m after them
+-- the same for the second side of an equivalence; there are n variables before the gates of the first side, and m before those of the second
 pub record AsksOfSecond (n m : ℕ) (w : Wires) (e side : Expanded) : Type 0 where
   pub smaller : 2 * instances side < 2 * instances e
   pub few : m + gate_count side ≤ n + gate_count e

@@ -53,7 +53,7 @@ module _ (n : ℕ) (w : Wiring) (r : LocalRule) (rule : IsRule r) (c : Cell) (ex
       leaves_weaken e (λ d s. signals d s && (near d s && known d s)) (λ d s. is_wire n (wires_near w c.position d s)) (λ d s. leaf_wired n r.symbols w c.position d s inner) three
 
 -- Cells at most `most_reach` from the origin stay in range when they are moved by v, if v is at least `most_reach` from the border of the range. So a
--- test of them needs no test of the range.
+-- test of these cells needn't check the range as well.
 in_range_all : (v : Place) → extent v ≤ most_coordinate - most_reach → (test : Cell → Bool) (ds : List Cell) → list_all is_near ds ≡ true →
     list_all (λ d. if is_in_range (moved d.position v) then test d else false) ds ≡ list_all test ds
 in_range_all v inner test [] near = refl

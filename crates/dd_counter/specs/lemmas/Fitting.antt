@@ -8,14 +8,14 @@ use Rattle.dd_circuit.specs.Circuits.{IsSignal, AreGates, signal_of}
 use Rattle.dd_circuit.specs.lemmas.GateLists.{AreGates-append, AreGates-snoc, two_in_range}
 use Rattle.dd_compile.specs.{Compiling.AllMade, lemmas.CaseGates.still_in_range}
 use Rattle.dd_problem.specs.Clauses.{input}
-use Rattle.dd_counter.specs.Counter.{Making, making, joined, member_by, member, of_symbol, members, count, row, rows}
+use Rattle.dd_counter.specs.Counter.{Making, all_made_of, joined, member_by, member, of_symbol, members, count, row, rows}
 
 -- each gate is over the first n variables and those of the gates before it, and the signals are over the first n variables and those of all gates
 pub record Fits (n : ℕ) (made : AllMade) : Type 0 where
   pub gates : AreGates n made.gates
   pub signals : All (IsSignal (n + length made.gates)) made.signals
 
-append_fits : (n : ℕ) (a b : AllMade) → Fits n a → Fits (n + length a.gates) b → Fits n (making (a.signals ++ b.signals) (a.gates ++ b.gates))
+append_fits : (n : ℕ) (a b : AllMade) → Fits n a → Fits (n + length a.gates) b → Fits n (all_made_of (a.signals ++ b.signals) (a.gates ++ b.gates))
 append_fits n a b first rest =
     let e = length-append a.gates b.gates in
     record {

@@ -8,7 +8,7 @@ use Rattle.dd_clause.specs.Clauses.{ClauseList}
 use Rattle.dd_cnf.specs.{Encoding.gates_clauses, lemmas.ModelLaws.same_list, lemmas.GateLaws.gates_clauses-append}
 use Rattle.dd_problem.specs.lemmas.RangesLeft.{range_to, range_step, range_ends}
 use Rattle.dd_compile.specs.Compiling.{AllMade}
-use Rattle.dd_counter.specs.Counter.{Making, making, joined, member_by, member, row, rows, grown}
+use Rattle.dd_counter.specs.Counter.{Making, all_made_of, joined, member_by, member, row, rows, grown}
 
 pub grown-append : (cnf : ClauseList) (gs hs : List Gate) → grown cnf (gs ++ hs) ≡ grown (grown cnf gs) hs
 grown-append cnf gs hs =
@@ -110,11 +110,11 @@ rows_few ws below k end start now before most left within few =
 
 -- The member for a symbol that alone weighs at most t. In `member_none` the row before has no signal at t - w, and in `member_some` it has
 -- one.
-pub member_none : (from : Signal) (w t : ℕ) (before : List Signal) (n : ℕ) → w ≤ t → slice_get before (t - w) ≡ None → member from w t before n ≡ making [] []
+pub member_none : (from : Signal) (w t : ℕ) (before : List Signal) (n : ℕ) → w ≤ t → slice_get before (t - w) ≡ None → member from w t before n ≡ all_made_of [] []
 member_none from w t before n h is = ap (λ b. member_by from b (slice_get before (t - w)) n) (le-ltb t w h) ∙ ap (λ o. member_by from false o n) is
 
 pub member_some : (from : Signal) (w t : ℕ) (before : List Signal) (n : ℕ) (r : Signal) → w ≤ t → slice_get before (t - w) ≡ Some r →
-    member from w t before n ≡ making (signal_of (suc n) ∷ []) (And (from ∷ r ∷ []) ∷ [])
+    member from w t before n ≡ all_made_of (signal_of (suc n) ∷ []) (And (from ∷ r ∷ []) ∷ [])
 member_some from w t before n r h is = ap (λ b. member_by from b (slice_get before (t - w)) n) (le-ltb t w h) ∙ ap (λ o. member_by from false o n) is
 
 -- the gates of the members are added to `start`, and then the Or gate over their signals; together these are the gates of `count`

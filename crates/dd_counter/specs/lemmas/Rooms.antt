@@ -1,6 +1,6 @@
--- Facts about tori and living configurations. A torus has at least one cell. Each symbol of a living configuration has a weight. Take the
--- number of cells times the greatest weight of a symbol as the bound on the weight. If `weight_count` is then within a limit, it is also within this
--- limit if the weight of a living configuration is taken as the bound.
+-- Facts about tori and living configurations. A torus has at least one cell. Each symbol of a living configuration has a weight. The weight of a
+-- living configuration is at most the number of cells times the greatest weight of a symbol. So if `weight_count` is within a limit with this product
+-- as the bound on the weight, it is also within this limit with the weight of the configuration as the bound.
 use Rattle.std.proofs.Common.{◌≡◌, ℕ, ◌*◌, ◌<◌, ◌≤◌, List, length, ap, sym, subst, arith}
 use Rattle.std.proofs.lemmas.Nat.{mul-le}
 use Rattle.std.specs.List.{All}

@@ -55,14 +55,14 @@ silent_at set (suc b) ws signals t none say light =
 
 -- What `weighed_shows` needs. The torus's clauses ask for living configurations, use only the first `base.variables` variables, and have inputs for
 -- the c cells of the fundamental box. Each symbol has a weight.
-pub record Stand (base : ClauseList) (x : LocalRule) (periods : Periods) (ws : List ℕ) (c : ℕ) : Type 0 where
+pub record IsBase (base : ClauseList) (x : LocalRule) (periods : Periods) (ws : List ℕ) (c : ℕ) : Type 0 where
   pub shows : ShowsTorus base.clauses x always periods
   pub own : (set other : ℕ → Bool) → Alike base.variables other set → Satisfies set base.clauses → Satisfies other base.clauses
   pub cells : c ≡ periods_volume periods * x.nodes
   pub weights : length ws ≡ x.symbols
   pub inputs : c * length ws ≤ base.variables
 
-module _ (base : ClauseList) (x : LocalRule) (periods : Periods) (ws : List ℕ) (below c : ℕ) (ok : Stand base x periods ws c) where
+module _ (base : ClauseList) (x : LocalRule) (periods : Periods) (ws : List ℕ) (below c : ℕ) (ok : IsBase base x periods ws c) where
   all_cells : (t : Tile) → HasPeriods periods t → IsWitness x always t → length t.symbols ≡ c
   all_cells t along is = is.tile.full ∙ (ap (λ p. periods_volume p * t.nodes) along ∙ (ap (λ n. periods_volume periods * n) is.fits.nodes ∙ sym ok.cells))
 
@@ -123,6 +123,6 @@ module _ (base : ClauseList) (x : LocalRule) (periods : Periods) (ws : List ℕ)
         read,
       )
 
-pub weighed_shows : (base : ClauseList) (x : LocalRule) (periods : Periods) (ws : List ℕ) (below c : ℕ) → Stand base x periods ws c →
+pub weighed_shows : (base : ClauseList) (x : LocalRule) (periods : Periods) (ws : List ℕ) (below c : ℕ) → IsBase base x periods ws c →
     ShowsWeights (weighed base ws below c).clauses x periods ws below
 weighed_shows base x periods ws below c ok = record { each = each base x periods ws below c ok; every = every base x periods ws below c ok }

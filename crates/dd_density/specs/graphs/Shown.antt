@@ -15,7 +15,7 @@ pub record IsShown (g : Transfer) (volume p q : ℕ) (walk : List ℕ) (ps : Lis
   pub potentials : ArePotentials g m l ps
 
 -- the ranks are right: there is one for each state, and the rank falls along each edge
-pub record AreFallen (g : Transfer) (ranks : List ℕ) : Type 0 where
+pub record AreFalling (g : Transfer) (ranks : List ℕ) : Type 0 where
   pub each : length ranks ≡ g.states
   pub fall : AreRanks g ranks
 

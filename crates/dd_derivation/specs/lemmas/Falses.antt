@@ -200,8 +200,8 @@ literals_of-append known (h ∷ hs) gs = ap (λ (ys : List Literal). unwrap_or (
 pub literals_of-more : (known : List (Option (List Literal))) (hints : List ℕ) (i : ℕ) → i < length hints → literals_of known (take (i + 1) hints) ≡ literals_of known (take i hints) ++ unwrap_or (clause_of known (get_or hints i 0)) []
 literals_of-more known hints i h = ap (literals_of known) (take_more hints i 0 h) ∙ literals_of-append known (take i hints) (get_or hints i 0 ∷ []) ∙ ap (λ (ys : List Literal). literals_of known (take i hints) ++ ys) (append-nil (unwrap_or (clause_of known (get_or hints i 0)) []))
 
--- if no earlier hinted clause contains the variable, the first literal of this variable in the clause of the hint at index i is also the first in all
--- hinted clauses
+-- if no clause hinted before index i contains the variable, the first literal of this variable in the clause of the hint at index i is also the first
+-- one in all hinted clauses together
 pub hinted_here : (known : List (Option (List Literal))) (hints : List ℕ) (i v : ℕ) (clause : List Literal) (m : Literal) → i < length hints → first_literal_of v (literals_of known (take i hints)) ≡ None → clause_of known (get_or hints i 0) ≡ Some clause → first_literal_of v clause ≡ Some m → first_literal_of v (literals_of known hints) ≡ Some m
 hinted_here known hints i v clause m lt h c e =
     let s : hints ≡ take i hints ++ get_or hints i 0 ∷ drop (suc i) hints = sym (take-append-drop i hints) ∙ ap (λ (hs : List ℕ). take i hints ++ hs) (drop-cons hints i 0 lt) in
@@ -226,12 +226,12 @@ is_last-drop (x ∷ hints) (suc j) h = is_last-drop hints j (omega arith) ∙ sy
 is_conflict-at : (known : List (Option (List Literal))) (falses : List Literal) (hints : List ℕ) (i d : ℕ) → i < length hints → is_conflict known falses (drop i hints) ≡ follow (hint_finding known (is_among falses) (get_or hints i d)) (eqb (i + 1) (length hints)) (λ l. is_conflict known (negation l ∷ falses) (drop (i + 1) hints))
 is_conflict-at known falses hints i d h = rw (drop-cons hints i d h, add-one i, is_last-drop hints (suc i) (omega arith)) refl
 
--- the clause of a hint says the same by the marks and the hinted clauses as by the list of false literals
+-- the clause of a hint says the same under the marks and the hinted clauses as under the list of false literals
 pub hint_seen : (known : List (Option (List Literal))) (marks : List VariableMark) (step : ℕ) (seen falses : List Literal) (h : ℕ) (f : Finding) → FalsesAre marks step seen falses → f ≡ hint_finding known (is_false marks step seen) h → hint_finding known (is_among falses) h ≡ f
 hint_seen known marks step seen falses h f a e = sym (e ∙ hint_finding-congr known (is_false marks step seen) (is_among falses) h a)
 
--- Whether all hints end in a conflict, in terms of what the clause of the hint at index i says. The hints before it have been followed, and `falses`
--- holds the literals that are false after them.
+-- Whether the hints, from the first on, end in a conflict, in terms of what the clause of the hint at index i says. The hints before it have been
+-- followed, and `falses` holds the literals that are false after them.
 pub conflict_now : (known : List (Option (List Literal))) (start falses : List Literal) (hints : List ℕ) (i : ℕ) (f : Finding) → i < length hints → hint_finding known (is_among falses) (get_or hints i 0) ≡ f → is_conflict known start hints ≡ is_conflict known falses (drop i hints) → is_conflict known start hints ≡ follow f (eqb (i + 1) (length hints)) (λ l. is_conflict known (negation l ∷ falses) (drop (i + 1) hints))
 conflict_now known start falses hints i f lt h e = e ∙ is_conflict-at known falses hints i 0 lt ∙ ap (λ (x : Finding). follow x (eqb (i + 1) (length hints)) (λ l. is_conflict known (negation l ∷ falses) (drop (i + 1) hints))) h
 

@@ -12,9 +12,9 @@ use Rattle.dd_derivation.specs.Derivations.{same_literal, is_among, finding_of, 
 use Rattle.dd_derivation.specs.lemmas.Soundness.{same_literal-eq, same_literal-refl, forced_by}
 
 -- the literals that are not false are the candidate and copies of it; there are none if there is no candidate
-abbrev pub Sums : Option Literal → List Literal → Type 0
-Sums None left = left ≡ []
-Sums (Some l) left = (rest : List Literal) × (left ≡ l ∷ rest) × (list_all (same_literal l) rest ≡ true)
+abbrev pub AreCopiesOf : Option Literal → List Literal → Type 0
+AreCopiesOf None left = left ≡ []
+AreCopiesOf (Some l) left = (rest : List Literal) × (left ≡ l ∷ rest) × (list_all (same_literal l) rest ≡ true)
 
 mixed : (first l : Literal) (rest more : List Literal) → same_literal first l ≡ false → list_all (same_literal first) (rest ++ l ∷ more) ≡ false
 mixed first l [] more h = rw h refl
@@ -31,18 +31,18 @@ open_early p clause i d first l rest lt f g n s =
     let e : clause ≡ take i clause ++ l ∷ drop (suc i) clause = sym (take-append-drop i clause) ∙ ap (λ (x : List Literal). take i clause ++ x) (drop-cons clause i d lt ∙ ap (λ (x : Literal). x ∷ drop (suc i) clause) g) in
     subst (λ (x : List Literal). finding p x ≡ Open) (sym e) (open_at p (take i clause) (drop (suc i) clause) first l rest f n s)
 
-pub all_sums : (p : Literal → Bool) (clause : List Literal) (i : ℕ) (c : Option Literal) → length clause ≤ i → Sums c (filter (λ x. not (p x)) (take i clause)) → Sums c (filter (λ x. not (p x)) clause)
-all_sums p clause i c h s = subst (λ (x : List Literal). Sums c (filter (λ y. not (p y)) x)) (take_all i clause h) s
+pub all_sums : (p : Literal → Bool) (clause : List Literal) (i : ℕ) (c : Option Literal) → length clause ≤ i → AreCopiesOf c (filter (λ x. not (p x)) (take i clause)) → AreCopiesOf c (filter (λ x. not (p x)) clause)
+all_sums p clause i c h s = subst (λ (x : List Literal). AreCopiesOf c (filter (λ y. not (p y)) x)) (take_all i clause h) s
 
 -- if the literals that are not false are all copies of one literal, the clause forces that literal, unless it is true already
-pub forced_end : (p : Literal → Bool) (clause : List Literal) (l : Literal) → Sums (Some l) (filter (λ x. not (p x)) clause) → finding p clause ≡ cond (p (negation l)) Open (Forced l)
+pub forced_end : (p : Literal → Bool) (clause : List Literal) (l : Literal) → AreCopiesOf (Some l) (filter (λ x. not (p x)) clause) → finding p clause ≡ cond (p (negation l)) Open (Forced l)
 forced_end p clause l s = rw (s.1, s.2) (turned (p (negation l)) (Forced l))
   where
     turned : (b : Bool) (f : Finding) → cond (not b) f Open ≡ cond b Open f
     turned true f = refl
     turned false f = refl
 
--- if two tests call the same literals false, the clause says the same by both
+-- if two tests call the same literals false, the clause says the same under both
 pub finding-congr : (p q : Literal → Bool) (clause : List Literal) → ((l : Literal) → p l ≡ q l) → finding p clause ≡ finding q clause
 finding-congr p q clause e = of_same (filter (λ x. not (p x)) clause) ∙ ap (finding_of q) (same_kept clause)
   where

@@ -37,15 +37,15 @@ pub same_literal-refl : (l : Literal) → same_literal l l ≡ true
 same_literal-refl l = and_from _ _ (eq-eqb l.variable l.variable refl) (beq_same l.positive)
 
 -- each literal that the test calls false is false under the set
-abbrev pub MarksFalse : (ℕ → Bool) → (Literal → Bool) → Type 0
-MarksFalse set is_false = (l : Literal) → is_false l ≡ true → is_true_under set l ≡ false
+abbrev pub CallsOnlyFalse : (ℕ → Bool) → (Literal → Bool) → Type 0
+CallsOnlyFalse set is_false = (l : Literal) → is_false l ≡ true → is_true_under set l ≡ false
 
 or_left_out : (a b : Bool) → a ≡ false → (a || b) ≡ true → b ≡ true
 or_left_out true b e h = cc
 or_left_out false b e h = h
 
 -- if the test calls only false literals false, and a clause has a true literal, then it has a true literal that the test does not call false
-kept_true : (set : ℕ → Bool) (is_false : Literal → Bool) (clause : List Literal) → MarksFalse set is_false → list_any (is_true_under set) clause ≡ true → list_any (is_true_under set) (filter (λ l. not (is_false l)) clause) ≡ true
+kept_true : (set : ℕ → Bool) (is_false : Literal → Bool) (clause : List Literal) → CallsOnlyFalse set is_false → list_any (is_true_under set) clause ≡ true → list_any (is_true_under set) (filter (λ l. not (is_false l)) clause) ≡ true
 kept_true set is_false [] m h = h
 kept_true set is_false (l ∷ clause) m h =
     let go : (b : Bool) → is_false l ≡ b → list_any (is_true_under set) (cond (not b) (l ∷ filter (λ x. not (is_false x)) clause) (filter (λ x. not (is_false x)) clause)) ≡ true =
@@ -113,11 +113,11 @@ followed (Forced l) is_last next h = inr (l, refl, h)
 followed Open is_last next h = absurd (cc)
 
 -- Let the test call only false literals false. If the clause of a hint is true, this clause is not falsified, and a literal that it forces is true.
-hint_true_at : (set : ℕ → Bool) (is_false : Literal → Bool) → MarksFalse set is_false → (o : Option (List Literal)) → ((c : List Literal) → o ≡ Some c → is_clause_true set c ≡ true) → (option_map_or (finding is_false) o Open ≡ Falsified → ⊥) × ((l : Literal) → option_map_or (finding is_false) o Open ≡ Forced l → is_true_under set l ≡ true)
+hint_true_at : (set : ℕ → Bool) (is_false : Literal → Bool) → CallsOnlyFalse set is_false → (o : Option (List Literal)) → ((c : List Literal) → o ≡ Some c → is_clause_true set c ≡ true) → (option_map_or (finding is_false) o Open ≡ Falsified → ⊥) × ((l : Literal) → option_map_or (finding is_false) o Open ≡ Forced l → is_true_under set l ≡ true)
 hint_true_at set is_false m None t = (λ e. cc, λ l e. absurd (cc))
 hint_true_at set is_false m (Some c) t = finding_of_true set is_false _ (kept_true set is_false c m (t c refl))
 
-marks_more : (set : ℕ → Bool) (falses : List Literal) (l : Literal) → MarksFalse set (is_among falses) → is_true_under set l ≡ true → MarksFalse set (is_among (negation l ∷ falses))
+marks_more : (set : ℕ → Bool) (falses : List Literal) (l : Literal) → CallsOnlyFalse set (is_among falses) → is_true_under set l ≡ true → CallsOnlyFalse set (is_among (negation l ∷ falses))
 marks_more set falses l m t x h =
     elim (or_cases (same_literal x (negation l)) (is_among falses x) h) [
       | inl a ↦ rw (same_literal-eq x (negation l) a, is_true_under-negation set l, t) refl
@@ -125,7 +125,7 @@ marks_more set falses l m t x h =
     ]
 
 -- hints do not end in a conflict if the known clauses are true and the literals in `falses` are false
-conflict_false : (set : ℕ → Bool) (known : List (Option (List Literal))) (falses : List Literal) (hints : List ℕ) → KnownTrue set known → MarksFalse set (is_among falses) → is_conflict known falses hints ≡ true → ⊥
+conflict_false : (set : ℕ → Bool) (known : List (Option (List Literal))) (falses : List Literal) (hints : List ℕ) → KnownTrue set known → CallsOnlyFalse set (is_among falses) → is_conflict known falses hints ≡ true → ⊥
 conflict_false set known falses [] s m h = false≢true h
 conflict_false set known falses (n ∷ hints) s m h =
     let r = hint_true_at set (is_among falses) m (clause_of known n) (λ c e. clause_of_known set known n c s e) in
@@ -135,7 +135,7 @@ conflict_false set known falses (n ∷ hints) s m h =
     ]
 
 -- the literals of a false clause are false
-pub all_false : (set : ℕ → Bool) (clause : List Literal) → is_clause_true set clause ≡ false → MarksFalse set (is_among clause)
+pub all_false : (set : ℕ → Bool) (clause : List Literal) → is_clause_true set clause ≡ false → CallsOnlyFalse set (is_among clause)
 all_false set [] h x e = absurd (false≢true e)
 all_false set (l ∷ clause) h x e =
     let p = or_parts (is_true_under set l) (is_clause_true set clause) h in

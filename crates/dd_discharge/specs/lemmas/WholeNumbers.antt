@@ -1,5 +1,5 @@
--- Products of whole numbers, and inequalities between them. In the first two lemmas an expression is rewritten as one difference of natural numbers,
--- and `omega` multiplies out the products.
+-- Products of whole numbers, and inequalities between them. In the first two lemmas, each side of the equation is rewritten as a single difference of
+-- natural numbers, and `omega` multiplies out the products.
 use Rattle.std.proofs.Common.{◌≡◌, ℕ, zero, suc, ◌+◌, ◌*◌, ◌<◌, ap, ◌∙◌, arith}
 use Rattle.std.proofs.{Math.Nat.eq_of_mul-eq-mul_right, lemmas.Int.ints, lemmas.Int.by_lt_z}
 use lib.IntN.{ℤ, pos, neg_ℤ, ◌+ℤ◌, ◌-ℤ◌, ◌*ℤ◌, *ℤ_comm}

@@ -41,7 +41,7 @@ is_zero_at counts k = option_map_or (λ count. count == 0) (slice_get counts k) 
 
 -- The places are divided into blocks of 32, and each block may have a mark. If the count at a place is 0, then the place's block has a
 -- mark, and does not come before the block `start`.
-pub record IsListed (counts : List ℕ) (marks : List Bool) (start : ℕ) : Type 0 where
+pub record HasMarks (counts : List ℕ) (marks : List Bool) (start : ℕ) : Type 0 where
   pub long : length marks ≡ length counts / 32 + 1
   pub after : (k : ℕ) → is_zero_at counts k ≡ true → start ≤ k / 32
   pub marked : (k : ℕ) → is_zero_at counts k ≡ true → slice_index_or marks (k / 32) false ≡ true

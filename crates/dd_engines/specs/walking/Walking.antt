@@ -1,7 +1,7 @@
 -- What the code keeps of a walk, and how it agrees with the clauses.
 use Rattle.std.specs.Prelude.{◌≡◌, ℕ, ◌^◌, ◌<◌, Bool, List, length, map, All}
 use Rattle.dd_clause.specs.{declared.clause.Literal.Literal, Clauses.IsClauseInRange}
-use Rattle.dd_engines.specs.walking.Truths.{true_count, IsListed}
+use Rattle.dd_engines.specs.walking.Truths.{true_count, HasMarks}
 
 -- The literals of the clauses are in range, and the clauses' lengths fit in 64 bits. The counts are those of the clauses' true literals. The marks of
 -- the blocks, and the block `start`, agree with the counts.
@@ -9,4 +9,4 @@ pub record Walks (clauses : List (List Literal)) (values : List Bool) (counts : 
   pub range : All (IsClauseInRange (length values)) clauses
   pub short : All (λ clause. length clause < 2 ^ 64) clauses
   pub counted : counts ≡ map (true_count values) clauses
-  pub are_listed : IsListed counts marks start
+  pub are_marked : HasMarks counts marks start

@@ -56,6 +56,6 @@ pub holds_agree : (e : Expanded) → Agrees e
 holds_agree = ind-Expanded Agrees (λ x y is p look other agree.
     rw (fold-roll-Expanded (Look → Bool) holds_step x, fold-roll-Expanded Bool (leaves_pass_step p) x, ← is) (step_agrees p look other agree y))
 
--- if the first look-up gives a symbol at each leaf, a look-up that extends it gives the same truth value
+-- if the first look-up gives a symbol to the cell of each leaf, a look-up that extends it gives the same truth value
 pub holds_keeps : (e : Expanded) (less more : Look) → Extends less more → given e less ≡ true → holds e less ≡ holds e more
 holds_keeps e less more extends = holds_agree e (λ c s. is_some (less c)) less more (λ c s h. ap (is_symbol s) (extends c h))

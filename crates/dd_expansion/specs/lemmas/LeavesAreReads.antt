@@ -85,7 +85,7 @@ module _ (test : Cell → Bool) where
   equal_reads : (n : ℕ) → 1 ≤ n → (c d : Cell) → leaves_pass (by_cell test) (equal_at n c d) ≡ (test c && (test d && true))
   equal_reads n some c d = leaves_of_equal (by_cell test) n c d ∙ all_in_range (test c && (test d && true)) n some
 
--- an atom about one cell, or about two: if its leaves pass the test whatever the cells are, they also pass it where a cell may be missing
+-- an atom about one cell, or about two: if the leaves of its expansion pass the test whatever the cells are, they also pass it when a cell is missing
 at_cell_passes : (test : LeafTest) (e : Cell → Expanded) → ((c : Cell) → leaves_pass test (e c) ≡ true) → (o : Option Cell) → leaves_pass test (at_cell e o) ≡ true
 at_cell_passes test e each None = leaves_of_constant test false
 at_cell_passes test e each (Some c) = each c

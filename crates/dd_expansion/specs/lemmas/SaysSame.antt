@@ -72,7 +72,7 @@ equal_says n c d look below =
     ∙ (list_any-alike (λ s. holds (both_have c d s) look) (are_both (look c) (look d)) (λ s. both_say c d s look) (range_with_len 0 n)
     ∙ symbols_say n (look c) (look d) (below c)))
 
--- an atom about one cell, or about two: if its expansion is right at every cell, it is right where a cell may be missing
+-- an atom about one cell, or about two: if its expansion has the atom's truth value when no cell is missing, it also has it when one is missing
 at_cell_says : (e : Cell → Expanded) (p : Cell → Bool) (look : Look) → ((c : Cell) → holds (e c) look ≡ p c) → (o : Option Cell) → holds (at_cell e o) look ≡ on_cell p o
 at_cell_says e p look same None = holds_constant false look
 at_cell_says e p look same (Some c) = same c

@@ -1,6 +1,6 @@
 -- The truth of a formula at a cell, from its expansion at the origin. If each cell d gets the symbol of the cell that is d moved by v, the expansion
--- has the truth value of the formula at the cell at v. With `seen`, d gets no symbol if d moved by v is out of range. The truth value is still the
--- same, if the cell of each leaf gets a symbol.
+-- has the truth value of the formula at the cell of the same node at v. With `seen`, d gets no symbol if d moved by v is out of range. The truth
+-- value is still the same if the cell of each leaf gets a symbol.
 use Rattle.std.proofs.Common.{◌≡◌, ◌≤◌, ℕ, Bool, true, false, List, [], ◌∷◌, refl, ap, sym, ◌∙◌, Some, None, cond}
 use Rattle.std.proofs.lemmas.Bool.{cond_both}
 use Rattle.std.specs.{Prelude.is_some, List.list_all}

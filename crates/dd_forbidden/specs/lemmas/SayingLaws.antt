@@ -1,5 +1,5 @@
--- A rule's expansion is its formula with all quantifiers written out. The numbered expansion has a number in place of each cell. It is true exactly
--- when the rule is true. Each cell that a rule reads has one of the rule's nodes.
+-- A rule's expansion is its formula with all quantifiers written out. The numbered formula is the expansion with a number in place of each cell. It
+-- is true exactly when the rule is true. Each cell that a rule reads has one of the rule's nodes.
 use Rattle.std.specs.{Prelude.All, List.position_or_len, List.list_all, List.fold, Ordering.is_eq, BTreeSet.insert_key}
 use Rattle.dd_pattern.specs.{Reading.HasSymbolsBelow, Reading.Look, Filling.filling_look, Filling.filled}
 use Rattle.dd_lattice.specs.{Order.cell_cmp, declared.position.Cell.Cell, Cells.shifted, Cells.cell, Place.Place, Place.place}
@@ -26,8 +26,8 @@ says_at_origin r a e ss truth below =
     let same : (λ (c : Cell). look (shifted (place (pos 0) (pos 0) (pos 0)) c)) ≡ look = fun_ext (λ c. ap look (shifted_by_origin c)) in
     ap (holds e) (sym same) ∙ truth look (look_below r.symbols (cells_at r a) ss below) (place (pos 0) (pos 0) (pos 0))
 
--- Suppose that the expansion is true exactly when the rule is true. Suppose also that the numbered formula is true of symbols exactly when the
--- expansion is true with these symbols at the cells that are read, in order. Then the numbered formula is true exactly when the rule is true.
+-- Suppose that the expansion is true exactly when the rule is true. Suppose also that the numbered formula is true of a list of symbols exactly when
+-- the expansion is true with these symbols at the cells that are read, in order. Then the numbered formula is true exactly when the rule is true.
 pub says_rule : (r : LocalRule) (a : ℕ) (e : Numbered) (x : Expanded) (cs : List Cell) → SaysTruth r a x → cs ≡ cells_at r a →
     ((ss : List ℕ) → holds_in e ss ≡ holds x (read_by (by_rank cs) ss)) → SaysRule r a e
 says_rule r a e x cs truth is says ss below = says ss ∙ (ap (λ ds. holds x (filling_look (filled ds ss))) is ∙ says_at_origin r a x ss truth below)

@@ -309,7 +309,7 @@ uniform = ind-Automaton IsUniform (λ x y is h.
 checks_given : (n : ℕ) (c : Cases) → checks n (v.Given c) ≡ limits_step n (Automaton-F.Given c)
 checks_given n c = ap (checks n) (sym (v.rolls-Given c)) ∙ fold-roll-Automaton Checked (limits_step n) (Automaton-F.Given c)
 
--- an automaton by cases within the limits on instances and reach is well formed in each setting that has a node and that its cases fit
+-- an automaton by cases that is within the limits on instances and reach is well formed in each setting that has a node and that its cases fit
 pub given_formed : (s : CommonNumbers) (c : Cases) → 1 ≤ s.nodes → cases_fit s c.cases c.otherwise ≡ true → is_few s.nodes (counted (v.Given c)) ≡ true →
     is_short s.nodes (counted (v.Given c)) ≡ true → IsAutomaton s (v.Given c)
 given_formed s c some fit few short =

@@ -15,8 +15,8 @@ use Rattle.dd_formula.specs.LocalRule.{LocalRule, expansion_at, reads_at, cells_
 pub at_cell : (r : LocalRule) (c : Cell) (look : Look) → HasSymbolsBelow r.symbols look → holds (expansion_at r c.node) (λ d. look (shifted c.position d)) ≡ is_true r c look
 at_cell r c look below = says_at r.edges r.symbols r.formula look c.position c.node below
 
--- A rule is true at the position v exactly when it is true at the origin, at the same node, after the symbols are moved back by v: each cell then has
--- the symbol that this cell moved by v had before.
+-- A rule is true at the position v exactly when it is true at the origin, at the same node, after the symbols are moved back by v: each cell d then
+-- has the symbol that d moved by v had before.
 pub truth_moved_back : (r : LocalRule) (v : Place) (a : ℕ) (look : Look) → is_true r (cell v a) look ≡ is_true r (origin_at a) (λ d. look (shifted v d))
 truth_moved_back r v a look = ap (λ c. is_true r c look) (sym (at_origin v a)) ∙ truth_shifted r.edges r.formula v (origin_at a ∷ []) look
 

@@ -11,7 +11,7 @@ use Rattle.dd_expansion.specs.{Leaves.seen, Truth.are_equal, Placed.is_flat, Ter
 use Rattle.dd_expansion.specs.lemmas.ListTests.{list_all-alike, list_all-weaker, list_all-flat_map}
 use Rattle.dd_formula.specs.LocalRule.{LocalRule, is_true, is_given, reads_at}
 use Rattle.dd_formula.specs.Automata.{CommonNumbers, Counted, Valuation, value, value_step, first_case, counted, counted_step, cases_reads, cells_of, rule_has, cases_fit, automaton_fits, automaton_fits_step, is_cell_of}
-use Rattle.dd_formula.specs.Values.{are_given, is_read, CasesArePlaced, IsPlaced}
+use Rattle.dd_formula.specs.Values.{are_given, are_reads_given, CasesArePlaced, IsPlaced}
 use Rattle.dd_formula.specs.declared.automaton.Automaton.{Automaton}
 use Rattle.dd_formula.specs.declared.automaton.Automaton.TheFolds.{fold-roll-Automaton, ind-Automaton, map-Automaton}
 use Rattle.dd_formula.specs.declared.automaton.{Automaton.TheOpen.Automaton-F, Cases.Cases}
@@ -147,23 +147,23 @@ seen_moved look p e =
     ap (λ q. cond (is_in_range q) (look (shifted origin (shifted p e))) None) (moved_by_none (moved e.position p))
     ∙ ap (λ d. cond (is_in_range (moved e.position p)) (look d) None) (shifted_by_none (shifted p e))
 
-read_there : (g : Automaton) (look : Look) (c : Cell) → are_given look origin (map (shifted c.position) ((counted g).reads c.node)) ≡ is_read g c look
+read_there : (g : Automaton) (look : Look) (c : Cell) → are_given look origin (map (shifted c.position) ((counted g).reads c.node)) ≡ are_reads_given g c look
 read_there g look c =
     let reads = (counted g).reads c.node in
     list_all-map (λ d. is_some (seen look origin d)) (shifted c.position) reads
     ∙ list_all-alike (λ e. is_some (seen look origin (shifted c.position e))) (λ e. is_some (seen look c.position e)) (λ e. ap is_some (seen_moved look c.position e)) reads
 
--- `is_read` holds of a composition at the origin exactly when it holds of the second automaton at each cell that the first one reads
-pub read_by_both : (f g : Automaton) (a : ℕ) (look : Look) → is_read (v.Composed f g) (origin_at a) look ≡ list_all (λ c. is_read g c look) (cells_of f a)
+-- `are_reads_given` holds of a composition at the origin exactly when it holds of the second automaton at each cell that the first one reads
+pub read_by_both : (f g : Automaton) (a : ℕ) (look : Look) → are_reads_given (v.Composed f g) (origin_at a) look ≡ list_all (λ c. are_reads_given g c look) (cells_of f a)
 read_by_both f g a look =
     let there = λ (c : Cell). map (shifted c.position) ((counted g).reads c.node) in
     let reads = (counted f).reads a in
     ap (λ (k : Counted). are_given look origin (k.reads a)) (counted_composed f g)
     ∙ (list_all-flat_map (λ d. is_some (seen look origin d)) there reads
-    ∙ (list_all-alike (λ c. are_given look origin (there c)) (λ c. is_read g c look) (read_there g look) reads
-    ∙ sym (list_all-in_order (λ c. is_read g c look) reads)))
+    ∙ (list_all-alike (λ c. are_given look origin (there c)) (λ c. are_reads_given g c look) (read_there g look) reads
+    ∙ sym (list_all-in_order (λ c. are_reads_given g c look) reads)))
 
--- the cases from the i-th on give a cell the symbol of the i-th case if its rule is true there, and else the symbol that the later cases give
+-- the cases from the i-th on give a cell the symbol of the i-th case if its rule is true there, and otherwise the symbol that the later cases give
 pub case_step : (cases : List (LocalRule × ℕ)) (otherwise : ℕ) (look : Look) (at : Cell) (i : ℕ) (case : LocalRule × ℕ) (b : Bool) → i < length cases → case ≡ get_or cases i case →
     is_true case.0 at look ≡ b → first_case (drop i cases) otherwise look at ≡ cond b case.1 (first_case (drop (i + 1) cases) otherwise look at)
 case_step cases otherwise look at i case b below is here =

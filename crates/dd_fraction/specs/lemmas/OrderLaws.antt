@@ -158,7 +158,7 @@ pub at_most_from_nonneg : (a : Exact) → IsNonneg a → IsAtMost (whole_of (pos
 at_most_from_nonneg a p =
     at_most_from_gap (whole_of (pos 0)) a (subst IsNonneg (sym (zero_gap a)) (nonneg_lowest a.num a.den p.sign))
 
--- ---- sums, products and opposites keep or reverse the order
+-- ---- sums, products and opposites preserve or reverse the order
 sum_gap : (a b c d : Exact)
     → plus (plus b (minus a)) (plus d (minus c)) ≡ plus (plus b d) (minus (plus a c))
 sum_gap a b c d = plus_four b (minus a) d (minus c) ∙ ap (plus (plus b d)) (sym (minus_plus a c))

@@ -73,7 +73,7 @@ lowest_whole n = lowest_coprime n 1 (omega arith) (greatest_common-one (unsigned
 pub whole_fraction : (n : ℤ) → SFits w64 n → IsFraction (record { num = n; den = 1 })
 whole_fraction n f = IsFraction-whole n (omega (arith, ints, f))
 
--- ---- there is a result exactly when the test is passed
+-- ---- there is a result exactly when the test succeeds
 pub kept : {A : Type 0} (t : Bool) (x z : A) → Some x ≡ cond t (Some z) None → (t ≡ true) × (x ≡ z)
 kept true x z e = (refl, cc)
 kept false x z e = absurd cc

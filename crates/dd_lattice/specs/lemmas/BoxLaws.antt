@@ -1,5 +1,5 @@
--- `index_in` and `place_in` are inverse to each other on the positions of a box and the numbers below its volume. The positions between the bounds of
--- B(n), the centred box of radius n, are exactly those of B(n).
+-- `index_in` and `place_in` are inverse to each other on the positions of a box and the numbers below its volume. A position is within the bounds
+-- `centred d n` exactly when it is in B(n), the centred box of radius n.
 use Rattle.std.proofs.Common.{◌≡◌, ◌↔◌, Bool, true, false, ◌-ℤ◌, ℕ, ◌+◌, ◌*◌, ◌/◌, ◌%◌, ◌<◌, ℤ, pos, ◌+ℤ◌, ◌≤ℤ◌, arith, mul_comm}
 use Rattle.std.proofs.lemmas.Int.{ints}
 use Rattle.std.proofs.lemmas.Nat.{mul-add-lt, div-mul-add, mod-mul-add, mod_below, div_below, div-add-mod'}
@@ -67,7 +67,7 @@ high_from_axis : (active : Bool) (n : ℕ) (c : ℤ) → OnAxis active (IsUpTo n
 high_from_axis true n c h = h.high
 high_from_axis false n c h = omega (arith, ints)
 
--- the positions between the bounds of B(n) are exactly those of B(n)
+-- a position is within the bounds `centred d n` exactly when it satisfies `IsCentred d n`
 pub centred_members : (d n : ℕ) (p : Place) → IsWithin (centred d n) p ↔ IsCentred d n p
 centred_members d n p = (
   λ h. record {

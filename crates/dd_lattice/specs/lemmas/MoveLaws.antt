@@ -1,5 +1,5 @@
 -- Moved positions, cells and regions. Moving a region by a position keeps its order, and moving by the origin changes nothing. The sum of two
--- coordinates in range fits the code's words of 32 bits.
+-- coordinates in range fits in the code's 32-bit words.
 use Rattle.std.proofs.Common.{◌≡◌, ℕ, ◌+◌, ℤ, ◌+ℤ◌, List, [], ◌∷◌, ◌++◌, map, length, take, get_or, ap, sym, refl, ◌<◌, ◌∙◌, arith, Some, None, if◌then◌else◌, pos, to_z, of_z, w32}
 use Rattle.std.proofs.lemmas.{Int.ints, List.take_more, List.map-append, List.Elements.All-push}
 use Rattle.std.specs.{Prelude.◌<ℤ◌, List.All, Ordering.int_cmp, Ordering.MatchOrdering, Cmp.int_cmp_is, Cmp.int_ranks}

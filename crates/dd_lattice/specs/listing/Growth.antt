@@ -10,7 +10,7 @@ along X c = place c (pos 0) (pos 0)
 along Y c = place (pos 0) c (pos 0)
 along Z c = place (pos 0) (pos 0) c
 
--- p is a position of the list, moved along the axis by at least low and less than high steps
+-- p is a position of the list, moved along the axis by a number of steps from low to high - 1
 pub record IsStretched (axis : Axis) (low high : ℤ) (ps : List Place) (p : Place) : Type 0 where
   pub origin : Place
   pub member : Contains ps origin

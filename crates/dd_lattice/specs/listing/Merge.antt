@@ -1,4 +1,4 @@
--- One step of a walk through two ascending lists, the left and the right one. The step compares their next positions, p and q, and gives the lesser.
+-- One step of a walk through two ascending lists, a left one and a right one. The step compares their next positions, p and q, and gives the lesser.
 use Rattle.std.specs.{Prelude.ℕ, declared.cmp.Ordering.Ordering}
 use Rattle.std.specs.declared.cmp.Ordering.TheVariants.{Less, Equal, Greater}
 use Rattle.dd_lattice.specs.Place.{Place}

@@ -27,7 +27,7 @@ value_always_zero g s look c = value_given _ look c
 value_marked : (g : Grid) (s : SymbolSets) (y : LocalRule) (look : Look) (c : Cell) → value (marked g s y) look c ≡ cond (truth g.edges (guarded_of s y) (c ∷ []) look) 0 1
 value_marked g s y look c = value_given _ look c
 
--- a number that is 0 if two facts hold, else 1, differs from 0 exactly when one of the facts fails
+-- a number that is 0 if two conditions hold, and 1 otherwise, differs from 0 exactly when at least one of the conditions fails
 differs_where : (a b : Bool) (x z : ℕ) → x ≡ cond (a && b) 0 1 → z ≡ 0 → (x ≡ z → ⊥) ↔ ((b ≡ false) ⊎ (a ≡ false))
 differs_where true true x z h h' = (λ other. absurd (other (h ∙ sym h')), λ e. elim e [ inl bad ↦ absurd (cc) | inr bad ↦ absurd (cc) ])
 differs_where true false x z h h' = (λ other. inl refl, λ e same. absurd (let both : 1 ≡ 0 = sym h ∙ (same ∙ h') in omega arith))

@@ -49,12 +49,12 @@ IsAtMost None x = ⊥
 IsAtMost (Some y) x = y ≤ x
 
 -- the entry is none, or a weight of at most the bound
-abbrev pub IsUpToIn : ℕ → Option ℕ → Type 0
-IsUpToIn bound None = Unit {0}
-IsUpToIn bound (Some a) = a ≤ bound
+abbrev pub IsEntryUpTo : ℕ → Option ℕ → Type 0
+IsEntryUpTo bound None = Unit {0}
+IsEntryUpTo bound (Some a) = a ≤ bound
 
 abbrev pub IsRowUpTo : ℕ → List (Option ℕ) → Type 0
-IsRowUpTo bound row = (v : ℕ) → IsUpToIn bound (at row v)
+IsRowUpTo bound row = (v : ℕ) → IsEntryUpTo bound (at row v)
 
 -- an edge between states below n; its weight is below 2^31, and n times its weight is at most 2^25
 abbrev pub IsEdgeOf : ℕ → Edge → Type 0

@@ -25,8 +25,8 @@ of_truth true = Holds
 of_truth false = Breaks
 
 -- the outcome of a filling that begins with the allowed symbols `start`, and gives the remaining cells the symbols ss
-abbrev pub outcome_behind : LocalRule → ℕ → List Cell → List ℕ → List ℕ → Outcome
-outcome_behind r a rest start ss = cond (are_allowed r rest ss) (of_truth (is_true_at_origin r a (start ++ ss))) Barred
+abbrev pub outcome_after : LocalRule → ℕ → List Cell → List ℕ → List ℕ → Outcome
+outcome_after r a rest start ss = cond (are_allowed r rest ss) (of_truth (is_true_at_origin r a (start ++ ss))) Barred
 
 -- the outcome of a filling
 abbrev pub outcome : LocalRule → ℕ → List ℕ → Outcome

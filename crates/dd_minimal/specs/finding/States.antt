@@ -7,8 +7,8 @@ use Rattle.dd_minimal.specs.Minimal.{words, thinned, listed}
 use Rattle.dd_minimal.specs.finding.Numbers.{IsWord, number, open_strides, least_number, KeepsBelow}
 use Rattle.dd_minimal.specs.finding.{Outcomes.outcome, Outcomes.outcomes, Outcomes.does_break, Walks.is_enough}
 
--- The first k cells are thinned to p, and all later cells are kept. For this pattern, ds are the strides of the cells that are left out, and `from` is
--- the least number of a filling that agrees with the pattern. The table shows that the pattern is forbidden.
+-- The first k cells are thinned to p. For the pattern that begins with p and keeps all later cells, ds are the strides of the cells that are left
+-- out, and `from` is the least number of a filling that agrees with it. The table shows that this pattern is forbidden.
 pub record IsThinnedTo (m : ℕ) (table : List Outcome) (ss : List ℕ) (k : ℕ) (p : List (Option ℕ)) (ds : List ℕ) (from : ℕ) : Type 0 where
   pub as_many : length p ≡ k
   pub below : KeepsBelow m p

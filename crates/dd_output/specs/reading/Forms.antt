@@ -1,5 +1,5 @@
 -- Forms: the parts of the grammar. A form has a reader and a least text, which is a text that the reader reads. If reading stops before the form
--- begins, the least text is what is missing of the form.
+-- begins, the least text completes the form.
 use Rattle.std.specs.Prelude.{ℕ, ◌+◌, List, [], ◌∷◌, ◌++◌, cond, ◌==◌}
 use Rattle.dd_output.specs.reading.Stops.{Read, before, word_at, number_at, then_at, after_at, map_at, many_at, copies, Entry, item, last, choice_at}
 

@@ -1,6 +1,6 @@
--- The grammar of answers, as a table. The texts are those after the word `query` and the query's number. Each row is for one kind of answer, or for
--- two kinds whose texts begin alike. Bytes are given as numbers, in decimal. Here a function whose name ends with `_of` isn't a reader: it makes a
--- value from the values of its parts.
+-- The grammar of answers, as a table. The texts leave out the word `query` and the query's number. Each row is for one kind of answer, or for two
+-- kinds whose texts begin alike. Bytes are given as numbers, in decimal. Here a function whose name ends with `_of` isn't a reader: it makes a value
+-- from the values of its parts.
 use Rattle.std.specs.Prelude.{ℕ, ℤ, List, [], ◌∷◌, Option, Some, None, codes}
 use Rattle.dd_clause.specs.declared.clause.Literal.{Literal}
 use Rattle.dd_derivation.specs.declared.step.Step.{Step}

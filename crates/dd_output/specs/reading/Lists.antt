@@ -90,8 +90,8 @@ minus_of n = (negsuc (n.0 - 1), n.1)
 abbrev pub plus_of : ℕ × ℕ → ℤ × ℕ
 plus_of n = (pos n.0, n.1)
 
--- a number from -`bound` to `bound`, and the byte that ends it, which is `end` or `other`; if reading stops, the byte `end` is missing, and then
--- `rest`
+-- a number from -`bound` to `bound`, and the byte that ends it, which is `end` or `other`; if reading stops, the missing text ends with the byte
+-- `end` and then `rest`
 unfoldable pub signed_at : ℕ → ℕ → ℕ → List ℕ → List ℕ → Read (ℤ × ℕ)
 signed_at bound end other rest = choice_at 45
     (map_at minus_of (after_at (45 ∷ []) (49 ∷ end ∷ rest) (number_at 1 bound end other (λ _. rest))))

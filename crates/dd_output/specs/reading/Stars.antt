@@ -16,8 +16,8 @@ star_of e = (None, e)
 abbrev pub symbol_of : ℕ × ℕ → Option ℕ × ℕ
 symbol_of n = (Some n.0, n.1)
 
--- a symbol, or a star (the byte 42), and the byte that ends it, which is `end` or `other`; if reading stops, the byte `end` is missing, and then
--- `rest`
+-- a symbol, or a star (the byte 42), and the byte that ends it, which is `end` or `other`; if reading stops, the missing text ends with the byte
+-- `end` and then `rest`
 unfoldable pub symbol_or_star_at : ℕ → ℕ → List ℕ → List ℕ → Read (Option ℕ × ℕ)
 symbol_or_star_at end other rest = choice_at 42
     (map_at star_of (after_at (42 ∷ []) (end ∷ rest) (end_byte_at end other rest)))

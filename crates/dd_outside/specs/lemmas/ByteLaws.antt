@@ -1,4 +1,4 @@
--- Lemmas on what reads and writes do to bytes.
+-- Lemmas on the effects of reads and writes on bytes.
 use Rattle.std.proofs.Common.{◌≡◌, ℕ, ◌+◌, ◌-◌, ◌≤◌, List, ◌++◌, sym, ◌∙◌, ap, subst, length, take, drop, arith, append_assoc, length-append, length-take, take-append-drop}
 use Rattle.std.proofs.{Math.Seq.take-add, lemmas.List.take_rest, lemmas.List.take_at, lemmas.List.drop-drop}
 use Rattle.std.proofs.KnownBytes.{Appends-trans, Appends-kept, Consumes-trans}

@@ -24,7 +24,7 @@ base_of-origin p x y z =
 pub origin_in_box : (t : Tile) (a : ℕ) → IsTile t → a < t.nodes → IsInBox t (cell (place (pos 0) (pos 0) (pos 0)) a)
 origin_in_box t a tile node = record { base = base_of-origin t.periods tile.periods.x_some tile.periods.y_some tile.periods.z_some; node = node }
 
--- take the index of the cell at v with node a: the cell of the fundamental box with this index is the cell at the base of v with node a
+-- `cell_in` takes the index of the cell with node a at v to the cell with node a at the base of v
 pub cell_at_index : (t : Tile) → IsTile t → (v : Place) (a : ℕ) → a < t.nodes → cell_in t (tile_index t (cell v a)) ≡ cell (base_of t.periods v) a
 cell_at_index t ok v a h =
     let x_in = residue_below (unsheared t.periods v) t.periods.x ok.periods.x_some in

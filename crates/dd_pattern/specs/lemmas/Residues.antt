@@ -1,4 +1,4 @@
--- Whole numbers modulo n, and their quotients by n, rounded down.
+-- Integers modulo n, and their quotients by n, rounded down.
 use Rattle.std.proofs.Common.{◌≡◌, ℕ, suc, ◌+◌, ◌*◌, ◌-◌, ◌%◌, ◌/◌, ◌<◌, ◌≤◌, ℤ, pos, negsuc, ◌+ℤ◌, unsigned_abs, arith, ap, sym, ◌∙◌, refl}
 use Rattle.std.proofs.Math.Nat.{mul-le-mul_left, mod-lt, mod-eq_of_lt, div-eq_of_lt, add-mul, add-mul-mod_self_right, add-mul-div_right}
 use Rattle.std.proofs.lemmas.{Int.ints, Int.int_rem_euclid_is, Nat.div-add-mod', Nat.div-mul-add, Nat.div_below}

@@ -11,7 +11,7 @@ use Rattle.dd_formula.specs.lemmas.AllowedLaws.{look_below as look_below_alphabe
 use Rattle.dd_clause.specs.declared.clause.Literal.{Literal}
 use Rattle.dd_cnf.specs.lemmas.ModelLaws.{Satisfies-is_satisfied, is_satisfied-Satisfies}
 use Rattle.dd_boxes.specs.Goals.{GoalOf, breaks, differ, always}
-use Rattle.dd_boxes.specs.{Fillings.Admissible, Fillings.in_box, Fillings.is_box_cell, Fillings.IsBoxFilling, Boxes.origin, Boxes.Reaches}
+use Rattle.dd_boxes.specs.{Fillings.Admissible, Fillings.in_box, Fillings.is_box_cell, Fillings.IsBoxFilling, Boxes.origin, Boxes.ReadsWithin}
 use Rattle.dd_boxes.specs.{lemmas.RuleLaws.list_all_weaker, lemmas.CutLaws.flat_box, lemmas.FromBox.box_alike, Cells.box_cells}
 use Rattle.dd_problem.specs.{pushing.GoalFacts.HasGoalFacts, Layouts.box_index, Layouts.box_layout, Layouts.fits_in, Problems.problem_clauses}
 use Rattle.dd_problem.specs.{Symbols.AreSymbols, Symbols.AreRead, Symbols.layout_look, Shows.IsReadFrom, Shows.Shows, Shows.DecidesBox}
@@ -24,14 +24,14 @@ use Rattle.dd_problem.specs.lemmas.BoxValues.{box_values}
 use Rattle.dd_problem.specs.lemmas.BoxLayout.{box_is_layout, box_cell_there, box_cell_at}
 use Rattle.dd_values.specs.lemmas.Booleans.{cond_domain}
 
-pub goal_reads_box : (x : LocalRule) (g : GoalOf) (n : ℕ) → HasGoalFacts x g → Reaches g n → HasReads (box_layout x n) g
+pub goal_reads_box : (x : LocalRule) (g : GoalOf) (n : ℕ) → HasGoalFacts x g → ReadsWithin g n → HasReads (box_layout x n) g
 goal_reads_box x (breaks y) n ok reach = λ a node.
     list_all_weaker (is_box_cell y n) (λ c. is_box_cell x n (shifted origin c))
     (λ c h. ap (is_box_cell x n) (shifted_by_origin c) ∙ (sym (box_alike x y n c ok.1) ∙ h)) (reads_at y a) (reach a node)
 goal_reads_box x (differ s f g) n ok reach = tt
 goal_reads_box x always n ok reach = tt
 
-pub box_is_wired : (x : LocalRule) (g : GoalOf) (n : ℕ) → IsRule x → HasGoalFacts x g → Reaches g n → IsWired (box_layout x n) x g
+pub box_is_wired : (x : LocalRule) (g : GoalOf) (n : ℕ) → IsRule x → HasGoalFacts x g → ReadsWithin g n → IsWired (box_layout x n) x g
 box_is_wired x g n rule ok reach =
     wired_layout (box_layout x n) x g rule ok (box_is_layout x n)
     (λ k d is. ltb-true d.node x.nodes (and_parts (in_box x.dimension n d.position) (nat_lt d.node x.nodes) (box_cell_at x n k d is).0).1)
@@ -127,7 +127,7 @@ read_by_cells : (set : ℕ → Bool) (x : LocalRule) (n : ℕ) (symbols : List �
 read_by_cells set x n symbols full read c s here below =
     rw here (read (box_index x n c) s (let low = (box_is_layout x n).within c here in omega arith) below)
 
-pub box_shows : (x : LocalRule) (g : GoalOf) (n : ℕ) → IsRule x → HasGoalFacts x g → Reaches g n → Shows (problem_clauses (box_layout x n) x g) x g n
+pub box_shows : (x : LocalRule) (g : GoalOf) (n : ℕ) → IsRule x → HasGoalFacts x g → ReadsWithin g n → Shows (problem_clauses (box_layout x n) x g) x g n
 box_shows x g n rule ok reach =
     let l = box_layout x n in
     let wired = box_is_wired x g n rule ok reach in

@@ -1,4 +1,4 @@
--- A box that holds all that the goal reads at the origin has the cells that the goal's automata read there, with their inputs.
+-- If a box holds all that the goal reads at the origin, the box's layout has inputs for all cells that the goal's automata read there.
 use Rattle.std.proofs.Common.{◌≡◌, ℕ, true, List, length, ap, sym, ◌∙◌, Some}
 use Rattle.std.proofs.lemmas.List.FromFn.{length-range_with_len}
 use Rattle.std.specs.List.{Contains, list_all, range_with_len}
@@ -8,7 +8,7 @@ use Rattle.dd_formula.specs.{LocalRule.LocalRule, LocalRule.IsRule, Automata.Com
 use Rattle.dd_formula.specs.declared.automaton.Automaton.{Automaton}
 use Rattle.dd_compile.specs.Wiring.{signals_of}
 use Rattle.dd_boxes.specs.Goals.{GoalOf, breaks, differ, always, AreOver}
-use Rattle.dd_boxes.specs.{Fillings.is_box_cell, Fillings.is_cell_within, Boxes.origin, Boxes.Reaches, lemmas.FromBox.box_over}
+use Rattle.dd_boxes.specs.{Fillings.is_box_cell, Fillings.is_cell_within, Boxes.origin, Boxes.ReadsWithin, lemmas.FromBox.box_over}
 use Rattle.dd_boxes.specs.Cells.{box_cells}
 use Rattle.dd_problem.specs.{pushing.GoalFacts.HasGoalFacts, Layouts.box_index, Layouts.box_layout}
 use Rattle.dd_problem.specs.pushing.Numbered.{symbol_signals, in_turn}
@@ -31,7 +31,7 @@ module _ (x : LocalRule) (n : ℕ) (rule : IsRule x) where
       ap (is_box_cell x n) (shifted_by_origin d) ∙ (sym (box_over x s f g n d over) ∙ passes_member (is_cell_within s n) ds d reach there) in
       (here, box_signals (shifted origin d) here ∙ ap (λ m. Some (symbol_signals m (box_index x n (shifted origin d)))) (sym over.symbols))
 
-  pub box_values : (g : GoalOf) → HasGoalFacts x g → Reaches g n → GoalWired (box_layout x n) x.symbols g
+  pub box_values : (g : GoalOf) → HasGoalFacts x g → ReadsWithin g n → GoalWired (box_layout x n) x.symbols g
   box_values (breaks y) ok reach = tt
   box_values (differ s f g) ok reach = record {
     symbols = ok.over.symbols;

@@ -48,7 +48,7 @@ only_false : (b : Bool) → (not b || false) ≡ true → b ≡ false
 only_false true h = sym h
 only_false false h = refl
 
--- the clauses that say that no variable whose number passes a test is true
+-- the clauses that say that `v s` is false for each s below m that passes the test q
 module _ (set : ℕ → Bool) (v : ℕ → ℕ) (q : ℕ → Bool) (m : ℕ) where
   pub none_at : is_satisfied set (map (λ s. literal (v s) false ∷ []) (filter q (range_with_len 0 m))) ≡ true → (s : ℕ) → s < m → q s ≡ true → set (v s) ≡ false
   none_at h s below passes =

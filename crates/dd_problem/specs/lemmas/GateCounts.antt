@@ -56,7 +56,7 @@ apart_few [] ys = omega arith
 apart_few (x ∷ xs) [] = omega arith
 apart_few (x ∷ xs) (y ∷ ys) = let rest = apart_few xs ys in omega (arith, rest)
 
--- the gates of two values, and those that tell them apart, are at most as many as their clauses
+-- the gates of two values, with those that tell them apart, are no more than their clauses
 two_values : (k : ℕ) (f g : Automaton) (w : Wiring) (at : Cell) (n : ℕ) → length (differ_made k f g w at n).gates ≤ differ_at k f g at.node
 two_values k f g w at n =
     let first = value_made k f w at n in

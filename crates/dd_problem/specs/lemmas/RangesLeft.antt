@@ -1,4 +1,4 @@
--- Loops that add literals or clauses, over a range of variables, over symbols or over cells; and where the inputs of a cell lie.
+-- Loops over a range of variables, over symbols or over cells, which add literals or clauses; and where the inputs of a cell lie.
 use Rattle.std.proofs.Common.{◌≡◌, ℕ, zero, suc, ◌+◌, ◌*◌, ◌<◌, ◌≤◌, Bool, List, [], ◌∷◌, ◌++◌, map, length, take, get_or, refl, ap, sym, ◌∙◌, arith, append_assoc, true, false}
 use Rattle.std.proofs.lemmas.List.{append-nil, map-append, take_more, length-take-le}
 use Rattle.std.proofs.lemmas.{List.Elements.All-cons, Nat.mul-le}
@@ -40,7 +40,7 @@ pairs_step all now new w end h so_far pushed =
     let rest = range_to (w + 1) end in
     so_far ∙ (ap (λ r. now ++ pairs r) (range_step w end h) ∙ rw pushed (sym (append_assoc now (map (λ o. literal w false ∷ literal o false ∷ []) rest) (pairs rest))))
 
--- if a range of variables lies in 1..n, their positive literals are over the variables 1..n
+-- if the variables of a range lie in 1..n, their positive literals are over the variables 1..n
 pub range_in_range : (n from k : ℕ) → 1 ≤ from → from + k ≤ n + 1 → All (IsLiteralInRange n) (map (λ v. literal v true) (range_with_len from k))
 range_in_range n from zero low high = λ i d h. absurd (omega arith)
 range_in_range n from (suc k) low high =

@@ -28,14 +28,14 @@ use Rattle.dd_problem.specs.lemmas.Parted.{has_input, differ_at, reads_inputs, g
 use Rattle.dd_problem.specs.lemmas.Reading.{IsLayout, IsWired, Stands, told_by_inputs, look_below}
 
 -- whether the input v is that of its cell's symbol in the list; each cell has m inputs
-abbrev pub guess : List ℕ → ℕ → ℕ → Bool
-guess symbols m v = is_symbol ((v - 1) % m) (slice_get symbols ((v - 1) / m))
+abbrev pub is_prescribed : List ℕ → ℕ → ℕ → Bool
+is_prescribed symbols m v = is_symbol ((v - 1) % m) (slice_get symbols ((v - 1) / m))
 
-abbrev pub guesses : List ℕ → ℕ → ℕ → List Bool
-guesses symbols m n = map (guess symbols m) (range_with_len 1 (n * m))
+abbrev pub prescribed : List ℕ → ℕ → ℕ → List Bool
+prescribed symbols m n = map (is_prescribed symbols m) (range_with_len 1 (n * m))
 
 abbrev pub written : List ℕ → ℕ → ℕ → List Gate → ℕ → Bool
-written symbols m n gates = true_variables (values_from (guesses symbols m n) gates)
+written symbols m n gates = true_variables (values_from (prescribed symbols m n) gates)
 
 within_inputs : (k s m n : ℕ) → k < n → s < m → k * m + s < n * m
 within_inputs k s m n h l = omega (arith, mul-add-lt k m s n h l)
@@ -46,8 +46,8 @@ inputs_written symbols m n gates full k s h l =
     let within : k < n = omega arith in
     let below = within_inputs k s m n within l in
     let e : suc (k * m + s) - 1 ≡ k * m + s = omega arith in
-    values_from-alike gates (guesses symbols m n) count (length-map-range_with_len (guess symbols m) 1 count) (input m k s) (omega arith) (omega arith)
-    ∙ (get_or-map-range_with_len (guess symbols m) 1 count (input m k s - 1) (input m k s) false (omega arith) (omega arith)
+    values_from-alike gates (prescribed symbols m n) count (length-map-range_with_len (is_prescribed symbols m) 1 count) (input m k s) (omega arith) (omega arith)
+    ∙ (get_or-map-range_with_len (is_prescribed symbols m) 1 count (input m k s - 1) (input m k s) false (omega arith) (omega arith)
     ∙ rw (e, div-mul-add k m s l, mod-mul-add k m s l) refl)
 
 cells_all : (set : ℕ → Bool) (x : LocalRule) (cells : List Cell) (a : ℕ) →
@@ -91,8 +91,8 @@ pub input_in_range : (k s m n : ℕ) → k < n → s < m → (1 ≤ input m k s)
 input_in_range k s m n h l = let below = within_inputs k s m n h l in (omega arith, omega arith)
 
 -- The gates of a rule at a cell are over the inputs and earlier gates. The same holds of the rule at several nodes, of the goal, and of each part.
-place_fits : (l : Layout) (m : ℕ) (r : LocalRule) (d : Cell) (n : ℕ) → IsLayout l → length l.places * m ≤ n → reads_inputs l m r d ≡ true → AreGates n (place_maker l m r d n).gates
-place_fits l m r d n ok le wired =
+rule_fits : (l : Layout) (m : ℕ) (r : LocalRule) (d : Cell) (n : ℕ) → IsLayout l → length l.places * m ≤ n → reads_inputs l m r d ≡ true → AreGates n (place_maker l m r d n).gates
+rule_fits l m r d n ok le wired =
     (made_fits (expansion_at r d.node) (wire l m d.position) (has_input l m d.position) (length l.places * m) n
     (λ c s h. (let both = and_parts (l.has (shifted d.position c)) (nat_lt s m) h in
     input_in_range (l.index (shifted d.position c)) s m (length l.places) (ok.within (shifted d.position c) both.0) (ltb-true s m both.1)))
@@ -104,7 +104,7 @@ nodes_fit l m r v [] n ok le wired = tt
 nodes_fit l m r v (a ∷ nodes) n ok le wired =
     let w = and_parts (reads_inputs l m r (cell v a)) (list_all (λ b. reads_inputs l m r (cell v b)) nodes) wired in
     let gs = (place_maker l m r (cell v a) n).gates in
-    AreGates-append n gs (all_made (map (λ b. place_maker l m r (cell v b)) nodes) (n + length gs)).gates (place_fits l m r (cell v a) n ok le w.0)
+    AreGates-append n gs (all_made (map (λ b. place_maker l m r (cell v b)) nodes) (n + length gs)).gates (rule_fits l m r (cell v a) n ok le w.0)
     (nodes_fit l m r v nodes (n + length gs) ok (omega arith) w.1)
 
 differ_fit : (l : Layout) (m : ℕ) (s : CommonNumbers) (f g : Automaton) → IsLayout l → AreValuesWired l m s f g → (k j n : ℕ) → j + k ≤ s.nodes → length l.places * m ≤ n →
@@ -121,7 +121,7 @@ goal_fits l m (breaks y) ok values wired n le = nodes_fit l m y origin (range_wi
 goal_fits l m always ok values wired n le = tt
 
 job_fits : (l : Layout) (x : LocalRule) (g : GoalOf) → IsLayout l → GoalWired l x.symbols g → (j : Option Cell) → job_reads l x g j ≡ true → PartFits (input_count l x) (job_part l x g j)
-job_fits l x g ok values (Some d) wired n le = AreGates-append n (place_maker l x.symbols x d n).gates [] (place_fits l x.symbols x d n ok le wired) tt
+job_fits l x g ok values (Some d) wired n le = AreGates-append n (place_maker l x.symbols x d n).gates [] (rule_fits l x.symbols x d n ok le wired) tt
 job_fits l x g ok values None wired n le = goal_fits l x.symbols g ok values wired n le
 
 abbrev pub problem_gates : Layout → LocalRule → GoalOf → List Gate
@@ -157,5 +157,5 @@ problem_written l x g wired symbols stands =
     let n = length l.places in
     let gs = problem_gates l x g in
     let read = inputs_written symbols x.symbols n gs stands.symbols_fit.as_many in
-    let agree = agrees-values_from gs (guesses symbols x.symbols n) (input_count l x) (length-map-range_with_len (guess symbols x.symbols) 1 (n * x.symbols)) (gates_fit l x g wired) in
+    let agree = agrees-values_from gs (prescribed symbols x.symbols n) (input_count l x) (length-map-range_with_len (is_prescribed symbols x.symbols) 1 (n * x.symbols)) (gates_fit l x g wired) in
     (satisfied_by l x g wired symbols stands (assignment l x g symbols) read agree, read)

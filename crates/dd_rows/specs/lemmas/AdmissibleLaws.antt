@@ -7,7 +7,7 @@ use Rattle.dd_lattice.specs.{Cells.cell, Cells.shifted, Order.cell_cmp, declared
 use Rattle.dd_values.specs.lemmas.{Members.Contains-first, Members.Contains-later, Booleans.equal_from}
 use Rattle.dd_values.specs.lemmas.Lists.{in_filter}
 use Rattle.dd_formula.specs.LocalRule.{LocalRule, is_true, reads_at}
-use Rattle.dd_boxes.specs.Fillings.{place_fits, Admissible}
+use Rattle.dd_boxes.specs.Fillings.{rule_fits, Admissible}
 use Rattle.dd_rows.specs.Fillings.{look_of, is_true_if_it_fits, is_admissible, words, fillings}
 use Rattle.dd_rows.specs.{Laws.AreCellsOf, Laws.AreTheAdmissible, listing.Levels.IsWord}
 use Rattle.dd_rows.specs.lemmas.{Lists.list_all_true, Lists.is_some_get, Ready.number_later, Growing.fillings_are}
@@ -47,12 +47,12 @@ admissible_holds x cs ss size h = λ v a flat below fits.
     let c = cell v a in
     let some = (and_parts (is_some (look c)) (list_all (λ d. is_some (look (shifted v d))) (reads_at x a)) fits).0 in
     let low : rank cs c < length ss = ltb-true _ _ (sym (is_some_get ss (rank cs c)) ∙ some) in
-    kept_true (place_fits x look c) (is_true x c look) fits (kept_at (is_true_if_it_fits x look) cs c h (omega (arith, low, size)))
+    kept_true (rule_fits x look c) (is_true x c look) fits (kept_at (is_true_if_it_fits x look) cs c h (omega (arith, low, size)))
 
 pub admissible_shown : (x : LocalRule) (cs : List Cell) (ss : List ℕ) → AreCellsOf x cs → Admissible x (look_of cs ss) → is_admissible x cs ss ≡ true
 admissible_shown x cs ss of h = list_all_true (is_true_if_it_fits x (look_of cs ss)) cs (λ k d within.
     let c = get_or cs k d in
-    kept_if (place_fits x (look_of cs ss) c) (is_true x c (look_of cs ss)) (h c.position c.node (of.flat k d within) (of.nodes k d within)))
+    kept_if (rule_fits x (look_of cs ss) c) (is_true x c (look_of cs ss)) (h c.position c.node (of.flat k d within) (of.nodes k d within)))
 
 pub the_admissible : (x : LocalRule) (cs : List Cell) → AreCellsOf x cs → AreTheAdmissible x cs
 the_admissible x cs of = record {

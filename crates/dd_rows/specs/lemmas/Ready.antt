@@ -1,5 +1,5 @@
--- The places where the rule fits, after the first cells have got symbols. At these places, more symbols don't change whether the rule is true. So
--- when one more cell gets a symbol, the rule has to be tested only at the places where it then fits for the first time.
+-- The places where the rule fits once the first cells have symbols. At these places, more symbols don't change whether the rule is true. So when one
+-- more cell gets a symbol, the rule has to be tested only at the places where it then fits for the first time.
 use Rattle.std.proofs.Common.{◌≡◌, ◌<◌, ◌≤◌, ◌+◌, ℕ, zero, suc, Bool, true, false, cond, List, [], ◌∷◌, ◌++◌, length, get_or, map, take, drop, min, max, refl, sym, ◌∙◌, ap, subst, inl, inr, arith, get_or-drop, length-drop, rules}
 use Rattle.std.proofs.lemmas.Bool.{and_parts, and_from, and_left, and_right, cases_lt, cases_order, cases_Bool, lt-ltb, le-ltb, ltb-true, ne_eqb, eq-eqb, false≢true}
 use Rattle.std.proofs.lemmas.List.{take-append-drop, get_or_default, length-append}
@@ -14,7 +14,7 @@ use Rattle.dd_values.specs.lemmas.Lists.{list_all_agree, list_all_both}
 use Rattle.dd_pattern.specs.Reading.{Look}
 use Rattle.dd_expansion.specs.{Leaves.seen, Limits.greatest}
 use Rattle.dd_formula.specs.LocalRule.{LocalRule, is_true, is_given, reads_at, cells_at}
-use Rattle.dd_boxes.specs.{Fillings.place_fits, lemmas.RuleLaws.keeps_at, lemmas.RuleLaws.list_all_weaker}
+use Rattle.dd_boxes.specs.{Fillings.rule_fits, lemmas.RuleLaws.keeps_at, lemmas.RuleLaws.list_all_weaker}
 use Rattle.dd_rows.specs.Fillings.{look_of, is_true_if_it_fits, is_admissible}
 use Rattle.dd_rows.specs.listing.Levels.{AreInRange, last_number, settled, is_true_if_given, are_true}
 use Rattle.dd_rows.specs.lemmas.Lists.{list_all_filter, list_all_true, prefix_of_take, is_some_get, get_longer}
@@ -89,7 +89,7 @@ some_when all j ss c size =
     ∙ (ap (nat_lt (min j (rank all c))) size ∙ min_below j (rank all c)))
 
 pub fits_when : (x : LocalRule) (all : List Cell) (j : ℕ) (ss : List ℕ) (d : Cell) → length ss ≡ j →
-    place_fits x (look_of (take j all) ss) d ≡ nat_lt (last_number x all d) j
+    rule_fits x (look_of (take j all) ss) d ≡ nat_lt (last_number x all d) j
 fits_when x all j ss d size =
     let look : Look = look_of (take j all) ss in
     let below : Cell → Bool = λ e. nat_lt (rank all (shifted d.position e)) j in
@@ -110,7 +110,7 @@ same_symbol all j ss s c size h =
     get_longer ss s (rank (take j all) c) h ∙ ap (slice_get (ss ++ s ∷ [])) same
 
 -- where the rule fits, one more symbol doesn't change whether the rule is true
-same_truth : (x : LocalRule) (all : List Cell) (j : ℕ) (ss : List ℕ) (s : ℕ) (d : Cell) → length ss ≡ j → place_fits x (look_of (take j all) ss) d ≡ true →
+same_truth : (x : LocalRule) (all : List Cell) (j : ℕ) (ss : List ℕ) (s : ℕ) (d : Cell) → length ss ≡ j → rule_fits x (look_of (take j all) ss) d ≡ true →
     is_true x d (look_of (take j all) ss) ≡ is_true x d (look_of (take (j + 1) all) (ss ++ s ∷ []))
 same_truth x all j ss s d size fits =
     let look : Look = look_of (take j all) ss in
@@ -124,7 +124,7 @@ seen_some false o h some = absurd (false≢true h)
 
 -- where the rule fits, the rule is given: each cell that it reads is in range and has a symbol
 pub given_where : (x : LocalRule) (all : List Cell) → AreInRange all → (j : ℕ) (ss : List ℕ) (d : Cell) → j ≤ length all → length ss ≡ j →
-    place_fits x (look_of (take j all) ss) d ≡ true → is_given x d (look_of (take j all) ss) ≡ true
+    rule_fits x (look_of (take j all) ss) d ≡ true → is_given x d (look_of (take j all) ss) ≡ true
 given_where x all near j ss d most size fits =
     let look : Look = look_of (take j all) ss in
     list_all_weaker (λ e. is_some (look (shifted d.position e))) (λ e. is_some (seen look d.position e))
@@ -154,8 +154,8 @@ kept_parts x all near j ss s below size longer d =
     let more : Look = look_of (take (j + 1) all) (ss ++ s ∷ []) in
     let n = last_number x all d in
     let e = nat_eq n j in
-    let f = place_fits x look d in
-    let f' = place_fits x more d in
+    let f = rule_fits x look d in
+    let f' = rule_fits x more d in
     let g = is_given x d more in
     let t = is_true x d look in
     let t' = is_true x d more in
@@ -189,7 +189,7 @@ late_kept x all up j ss size i d within =
     let is : c ≡ get_or all (j + i) d = get_or-drop j all i d in
     let at : get_or all (j + i) c ≡ c = get_or_default all (j + i) c d below ∙ sym is in
     let number : rank all c ≡ j + i = number_is all up (j + i) c below at in
-    not_fit (place_fits x look c) (is_true x c look) (fits_when x all j ss c size ∙ le-ltb (last_number x all c) j (omega (arith, number)))
+    not_fit (rule_fits x look c) (is_true x c look) (fits_when x all j ss c size ∙ le-ltb (last_number x all c) j (omega (arith, number)))
 
 and_with_true : (a b : Bool) → b ≡ true → a ≡ (a && b)
 and_with_true a b h = rw h (and_true a)
@@ -208,8 +208,8 @@ and_turned true false = refl
 and_turned false true = refl
 and_turned false false = refl
 
--- a filling with one more symbol is admissible exactly when it was so before, and the rule is true at the places where it can
--- first be tested now
+-- a filling with one more symbol is admissible exactly when the filling without this symbol is, and the rule is true at the places where the new
+-- symbol lets the rule be tested for the first time
 pub admissible_parts : (x : LocalRule) (all : List Cell) → IsStrictlySortedBy cell_cmp all → AreInRange all → (j : ℕ) (ss : List ℕ) (s : ℕ) → j < length all → length ss ≡ j →
     is_admissible x (take (j + 1) all) (ss ++ s ∷ []) ≡ (is_admissible x (take j all) ss && are_true x (take (j + 1) all) (settled x all j) (ss ++ s ∷ []))
 admissible_parts x all up near j ss s below size =

@@ -30,7 +30,7 @@ pub data JudgedFront (old new : Option (List ℕ)) (s : Parts) (answers : List A
 abbrev pub most_of : Parts → List Answer → ℕ
 most_of s answers = max (length s.queries) (length answers)
 
--- The lines up to that of the first rejection were written.
+-- The lines up to and including that of the first rejection were written.
 pub record RejectedHere (old new : Option (List ℕ)) (s : Parts) (answers : List Answer) : Type 0 where
   pub done : ℕ
   pub rejected : FirstRejected s answers done
@@ -46,7 +46,8 @@ pub record AcceptedAll (old new : Option (List ℕ)) (s : Parts) (answers : List
   pub all : AllAccepted s answers
   pub appends : Appends old new (accepted_lines (length answers) ++ checked_line (length answers))
 
--- What was written before the line `checked`. The truth value says whether nothing was rejected; only then does that line follow.
+-- If nothing is rejected, which the truth value says, the lines of all queries were written. Otherwise the lines up to and including that of the
+-- first rejection were written.
 abbrev pub EachJudged : Option (List ℕ) → Option (List ℕ) → Parts → List Answer → Bool → Type 0
 EachJudged old new s answers true = AcceptedEach old new s answers
 EachJudged old new s answers false = RejectedHere old new s answers

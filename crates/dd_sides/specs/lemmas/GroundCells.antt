@@ -1,4 +1,4 @@
--- The ground: the cells around the origin whose admissible fillings give the rows. All of them lie within `reach_of` of the origin. The ground
+-- The ground: the cells around the origin whose admissible fillings give the rows. All these cells lie within `reach_of` of the origin. The ground
 -- includes the cells of the boxes around the origin and around its givers, which are the positions from which the origin receives.
 use Rattle.std.proofs.Common.{◌≡◌, ◌<◌, ◌+◌, ◌≤◌, ℕ, zero, suc, Bool, true, false, List, [], ◌∷◌, map, refl, sym, ap, subst, inl, inr, arith}
 use Rattle.std.proofs.lemmas.{Bool.and_parts, Bool.and_from, Bool.lt-ltb, Bool.Decides.Decides-int_eq, Int.ints}

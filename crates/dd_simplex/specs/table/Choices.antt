@@ -52,7 +52,7 @@ DoRatiosFit lines e n =
 
 -- some line limits the entering variable, and a number of its ratio doesn't fit
 pub record HasMisfit (lines : List Line) (e : ℕ) : Type 0 where
-  pub place : ℕ
-  pub within : place < length lines
-  pub limit : does_limit lines e place ≡ true
-  pub misfit : does_product_fit (line_at lines place).bound (inverse (fraction_at (line_at lines place).cells e)) ≡ false
+  pub line : ℕ
+  pub within : line < length lines
+  pub limit : does_limit lines e line ≡ true
+  pub misfit : does_product_fit (line_at lines line).bound (inverse (fraction_at (line_at lines line).cells e)) ≡ false

@@ -24,7 +24,7 @@ pub record HasIterated (old new : Table) : Type 0 where
   pub pivoted : new ≡ changed_table place line old
 
 -- the variable of some line leaves and the numbers of the ratios fit, but a number of the pivot doesn't fit
-pub record HasLeft (t : Table) (e : ℕ) : Type 0 where
+pub record HasPivotMisfit (t : Table) (e : ℕ) : Type 0 where
   pub line : ℕ
   pub ratios : DoRatiosFit t.lines e (length t.lines)
   pub leaves : DoesLeave t e (Some line)
@@ -34,7 +34,7 @@ pub record HasLeft (t : Table) (e : ℕ) : Type 0 where
 pub record IsStuck (t : Table) : Type 0 where
   pub place : ℕ
   pub enters : DoesEnter t (Some place)
-  pub reason : HasMisfit t.lines place ⊎ (DoesLeave t place None ⊎ HasLeft t place)
+  pub reason : HasMisfit t.lines place ⊎ (DoesLeave t place None ⊎ HasPivotMisfit t place)
 
 -- the line of the slack of row i in the first table
 abbrev pub line_of : LinearProgram → ℕ → Line

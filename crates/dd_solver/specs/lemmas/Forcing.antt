@@ -1,4 +1,4 @@
--- The literals of a list of one literal, and those of two lists joined into one. Each literal of a falsified clause is false.
+-- Which literals are in a list of one literal, and which are in two lists joined into one. Each literal of a falsified clause is false.
 use Rattle.std.proofs.Common.{◌≡◌, Bool, true, false, cond, not, ◌&&◌, List, [], ◌∷◌, ◌++◌, refl, sym, ◌∙◌, subst, inl, inr, ◌⊎◌}
 use Rattle.std.proofs.lemmas.Bool.{cases_Bool, or_cases, or_left, or_right, false≢true}
 use Rattle.std.proofs.lemmas.List.Folds.{list_any-append}
@@ -20,7 +20,7 @@ in_right xs ys x h = rw (list_any-append (same_literal x) xs ys) (or_right _ _ h
 pub in_cases : (xs ys : List Literal) (x : Literal) → In (xs ++ ys) x → (In xs x) ⊎ (In ys x)
 in_cases xs ys x h = or_cases _ _ (rw (list_any-append (same_literal x) xs ys) at h)
 
--- a literal in a list of one literal is that literal
+-- a literal x in the list whose only literal is y is y itself
 pub in_one : (x y : Literal) → In (y ∷ []) x → x ≡ y
 in_one x y h = elim (or_cases (same_literal x y) false h) [ inl a ↦ same_literal-eq x y a | inr a ↦ absurd (false≢true a) ]
 

@@ -59,7 +59,7 @@ right_kept n keep rename old new s k a r =
     and_from _ _ q.0 (and_from _ _ (conflict_renamed old new rename s.clause s.hints (λ h x i e. a h x (k h (known_within old x h e) i) e) c) refl)
 
 -- Let each clause of `old` say the same as the clause of `new` with the new number, and let the steps get the numbers after those of `new`. If the
--- steps refute the clauses of `old`, the steps with new numbers in their hints refute those of `new`.
+-- steps refute the clauses of `old`, the steps with new numbers in their hints refute the clauses of `new`.
 pub refutes_renamed : (n : ℕ) (rename : ℕ → ℕ) (steps : List Step) (old new : Known) → Agree (λ _. true) rename old new → ((j : ℕ) → j < length steps → rename (length old + suc j) ≡ length new + suc j) → refutes_from n old steps ≡ true → refutes_from n new (map (kept_step rename) steps) ≡ true
 refutes_renamed n rename [] old new a e r = absurd (false≢true r)
 refutes_renamed n rename (s ∷ steps) old new a e r =

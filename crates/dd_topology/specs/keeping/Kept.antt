@@ -2,7 +2,7 @@
 use Rattle.std.specs.Prelude.{ℕ, zero, suc, List, [], ◌∷◌, take, drop}
 use Rattle.dd_topology.specs.declared.{edge.Edge.Edge, topology.Move.Move}
 
--- the move that an edge makes
+-- the move of an edge
 abbrev pub move_of : Edge → Move
 move_of e = record { label = e.label; from = e.from }
 

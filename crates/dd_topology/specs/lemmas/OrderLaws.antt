@@ -1,4 +1,4 @@
--- Strictly sorted lists: such a list is determined by its members. `insert_key` inserts an element into such a list.
+-- Strictly sorted lists: such a list is determined by its members. `insert_key` keeps such a list strictly sorted.
 use Rattle.std.proofs.Common.{◌≡◌, List, [], ◌∷◌, refl, ap, sym, ◌∙◌, subst, inl, inr, ◌⊎◌, rules, arith, Contains}
 use Rattle.std.proofs.lemmas.List.Elements.{All-from_recursion, recursion_from_All, All-cons, All-weaker}
 use Rattle.std.proofs.lemmas.Map.Views.{All-insert_key}

@@ -21,7 +21,8 @@ HasCode l = code l ≢ 0
 abbrev pub is_kept : List Bool → ℕ → Bool
 is_kept alive number = nat_le 1 number && slice_index_or alive (number - 1) false
 
--- from one place up to, but not including, another, the copy holds codes of false literals; `denied` says of each code whether its literal is false
+-- the copy holds codes of false literals at the places from `from` up to, but not including, `to`; `denied` says of each code whether its literal is
+-- false
 abbrev pub AreDenied : List Bool → List Code → ℕ → ℕ → Type 0
 AreDenied denied codes from to = (p : ℕ) → from ≤ p → p < to → slice_index_or denied (code_at codes p) false ≡ true
 

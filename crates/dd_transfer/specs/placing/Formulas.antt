@@ -30,7 +30,7 @@ abbrev pub SaysAt : LocalRule → Strip → Cell → Numbered → Type 0
 SaysAt r s c e = (ss : List ℕ) → HasSymbolsBelow r.symbols (window_look s ss) → holds_in e ss ≡ is_true r (cell c.position c.node) (window_look s ss)
 
 -- the list has such a formula for each cell of the tested slice, in cell order
-pub record ArePlaces (r : LocalRule) (s : Strip) (es : List Numbered) : Type 0 where
+pub record AreFormulas (r : LocalRule) (s : Strip) (es : List Numbered) : Type 0 where
   pub each : length es ≡ cells s
   pub says : (k : ℕ) (d : Numbered) → k < cells s → SaysAt r s (cell_at s (stand r) k) (get_or es k d)
 

@@ -23,14 +23,14 @@ slice_index_within n [] i h = omega arith
 slice_index_within n (x ∷ xs) zero h = h zero x (omega arith)
 slice_index_within n (x ∷ xs) (suc i) h = slice_index_within n xs i (λ k d within. h (suc k) d (omega (arith, within)))
 
--- past its end, a list of truth values counts as false; so an index with the value true is below the length
+-- past the end of a list of truth values, the value is false; so an index with the value true is below the length
 pub nothing_past : (row : List Bool) (t : ℕ) → get_or row t false ≡ true → t < length row
 nothing_past row t h = elim (cases_lt t (length row)) [ inl low ↦ low | inr high ↦ absurd (let past = get_or-eq_default row false high in cc) ]
 
 pub empty_row : (row : List Bool) (t : ℕ) → row ≡ [] → get_or row t false ≡ false
 empty_row row t none = get_or-eq_default row false (let few : length row ≡ 0 = ap length none in let past : length row ≤ t = omega arith in past)
 
--- if all members pass a test, each does
+-- if `list_all` holds for a test, each member of the list passes the test
 pub passes : {X : Type 0} (f : X → Bool) (xs : List X) (x : X) → list_all f xs ≡ true → Contains xs x → f x ≡ true
 passes f [] x h c = absurd (Contains-nil x c)
 passes f (y ∷ xs) x h c =

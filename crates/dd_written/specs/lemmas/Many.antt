@@ -18,8 +18,8 @@ many_sound {X} reads begins item sound (suc n) tokens xs rest e =
       | inr ended ↦ subst (λ (x : List X × List Lexeme). ReadsAll reads x.0 tokens x.1) (some_is _ _ ended.1) refl
     ]
 
--- Suppose that wherever `reads` holds of an item, `begins` holds of its tokens, and `item` reads it from them. Then `many` reads all the items of
--- which `ReadsAll` holds, if there are at most n of them. If there are fewer than n, `begins` must not hold of the tokens after them.
+-- Suppose that wherever `reads` holds of an item, `begins` holds of its tokens, and `item` reads it from them. Take at most n items of which
+-- `ReadsAll` holds. If there are fewer than n, suppose also that `begins` doesn't hold of the tokens after them. Then `many` reads all these items.
 pub many_again : {X : Type 0} (reads : X → List Lexeme → List Lexeme → Type 0) (begins : List Lexeme → Bool) (item : Reader X)
     → ((x : X) (tokens rest : List Lexeme) → reads x tokens rest → (begins tokens ≡ true) × (item tokens ≡ Some (x, rest)))
     → (n : ℕ) (xs : List X) (tokens rest : List Lexeme) → length xs ≤ n → (length xs < n → begins rest ≡ false) → ReadsAll reads xs tokens rest → many begins item n tokens ≡ Some (xs, rest)

@@ -1,7 +1,7 @@
 use Rattle.std.proofs.Common.{[], List, length, ap, sym, ◌∙◌, subst, arith}
 use Rattle.std.specs.List.{All}
 use Rattle.dd_circuit.specs.{declared.gates.Signal.Signal, Circuits.IsSignal, Circuits.size}
-use Rattle.dd_compile.specs.{ValueGates.choices, ValueGates.rules_made, ValueSignals.CasesSay}
+use Rattle.dd_compile.specs.{ValueGates.choices, ValueGates.rules_made, ValueSignals.TellsRules}
 use Rattle.dd_compile.specs.lemmas.Progress.{size-append, Extends-trans}
 use Rattle.dd_compile.specs.lemmas.CaseRules.{rules_wired, value_length, asks, value_answer}
 use Rattle.dd_compile.proofs.values.compile_cases.Goals as goal
@@ -49,7 +49,7 @@ returns c =
     let a =
     value_answer c.args.symbols c.args.cases.now c.args.inputs.now c.args.at.now c.args.circuit.now c.compile_rules.new.circuit c.choose.new.circuit c.give.new.circuit
     rules c.deref-3.result.now c.deref-2.result.now (λ v. v.items) c.give.result c.requires.cases c.compile_rules.ensures.extends e.gates (c.deref.ensures.value ∙ e.signals)
-    (subst (λ xs. CasesSay c.compile_rules.new.circuit c.args.inputs.now c.args.cases.now c.args.at.now c.args.cases.now.cases xs) (sym c.deref.ensures.value) e.says)
+    (subst (λ xs. TellsRules c.compile_rules.new.circuit c.args.inputs.now c.args.cases.now c.args.at.now c.args.cases.now.cases xs) (sym c.deref.ensures.value) e.says)
     c.choose.ensures.extends c.in_ok-chosen.ensures.gates (c.deref-3.ensures.value ∙ c.in_ok-chosen.ensures.signals) (c.deref-2.ensures.value ∙ c.in_ok-given.ensures)
     c.give.ensures.extends c.give.ensures.gates c.give.ensures.signals in
     record {

@@ -3,7 +3,7 @@ use Rattle.std.proofs.lemmas.{Grind.common_steps, Bool.not-true}
 use Rattle.std.specs.List.{filter}
 use Rattle.dd_clause.specs.{declared.clause.Literal.Literal, Clauses.negation}
 use Rattle.dd_derivation.specs.Derivations.{same_literal}
-use Rattle.dd_derivation.specs.lemmas.Findings.{Sums, open_early, all_sums, forced_end}
+use Rattle.dd_derivation.specs.lemmas.Findings.{AreCopiesOf, open_early, all_sums, forced_end}
 use Rattle.dd_derivation.proofs.propagation.find.Goals as goal
 
 none : Literal
@@ -14,13 +14,13 @@ unfolding none
 returns-then-ne g c =
     let p : Literal → Bool = g.F.FalseLiterals.is_false c.args.falses.now in
     let i = c.loop-literal.literal-index in
-    let s : Sums (Some c.in-Some.first) (filter (λ x. not (p x)) (take i c.args.clause.now)) = subst (λ (o : Option Literal). Sums o (filter (λ x. not (p x)) (take i c.args.clause.now))) c.in-Some.is c.loop-literal.invariant in
+    let s : AreCopiesOf (Some c.in-Some.first) (filter (λ x. not (p x)) (take i c.args.clause.now)) = subst (λ (o : Option Literal). AreCopiesOf o (filter (λ x. not (p x)) (take i c.args.clause.now))) c.in-Some.is c.loop-literal.invariant in
     let differ : same_literal c.in-Some.first (get_or c.args.clause.now i none) ≡ false = not-true _ (sym c.ne.ensures ∙ c.if-ne.true) in
     sym (open_early p c.args.clause.now i none c.in-Some.first _ s.0 (omega arith) s.1 refl (sym c.is_false.ensures ∙ c.if-not-is_false.true) differ)
 
 -- at the end, all literals of the clause that are not false are copies of the candidate
-at_end : (p : Literal → Bool) (clause : List Literal) (i : ℕ) (o : Option Literal) (l : Literal) → length clause ≤ i → o ≡ Some l → Sums o (filter (λ x. not (p x)) (take i clause)) → Sums (Some l) (filter (λ x. not (p x)) clause)
-at_end p clause i o l h e s = all_sums p clause i (Some l) h (subst (λ (x : Option Literal). Sums x (filter (λ y. not (p y)) (take i clause))) e s)
+at_end : (p : Literal → Bool) (clause : List Literal) (i : ℕ) (o : Option Literal) (l : Literal) → length clause ≤ i → o ≡ Some l → AreCopiesOf o (filter (λ x. not (p x)) (take i clause)) → AreCopiesOf (Some l) (filter (λ x. not (p x)) clause)
+at_end p clause i o l h e s = all_sums p clause i (Some l) h (subst (λ (x : Option Literal). AreCopiesOf x (filter (λ y. not (p y)) (take i clause))) e s)
 
 pub returns-else-is_false : goal.returns-else-is_false
 returns-else-is_false g c =

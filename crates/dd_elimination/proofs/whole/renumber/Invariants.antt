@@ -1,6 +1,6 @@
 use Rattle.std.proofs.Common.{◌≡◌, ◌++◌, drop, map, take}
-use Rattle.dd_elimination.specs.Reductions.{whole_number}
+use Rattle.dd_elimination.specs.Reductions.{new_number}
 use Rattle.dd_elimination.proofs.whole.renumber.Given as goal
 
 abbrev pub invariant-loop-hint : goal.invariant-loop-hint
-invariant-loop-hint l = l.hints ≡ map (whole_number l.numbers l.before) (take l.hint-index l.fn.hints) ++ drop l.hint-index l.fn.hints
+invariant-loop-hint l = l.hints ≡ map (new_number l.numbers l.before) (take l.hint-index l.fn.hints) ++ drop l.hint-index l.fn.hints

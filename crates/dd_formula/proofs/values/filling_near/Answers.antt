@@ -16,7 +16,7 @@ pub loop-cell-preserved : goal.loop-cell-preserved
 loop-cell-preserved g c =
     let cells : List Cell = c.deref-cell-items.result.now in
     let look : Look = seen (g.R.Reads.symbols c.args.read.now) c.args.at.now in
-    let here : Some c.in-Some.symbol ≡ look c.cell-item.result = sym c.in-Some.is ∙ c.symbol_near.ensures in
+    let here : Some c.in-Some.symbol ≡ look c.cell-item.result = sym c.in-Some.is ∙ c.symbol_seen.ensures in
     ap (map Some) c.in_ok-push.ensures.items
     ∙ (map-append Some c.loop-cell.symbols.items (c.in-Some.symbol ∷ [])
     ∙ (ap (λ xs. xs ++ Some c.in-Some.symbol ∷ []) c.loop-cell.invariant
@@ -34,7 +34,7 @@ pub returns-in_default : goal.returns-in_default
 returns-in_default g c =
     let cells : List Cell = c.deref-cell-items.result.now in
     let look : Look = seen (g.R.Reads.symbols c.args.read.now) c.args.at.now in
-    let none : look c.cell-item.result ≡ None = sym c.symbol_near.ensures ∙ c.in_default.is in
+    let none : look c.cell-item.result ≡ None = sym c.symbol_seen.ensures ∙ c.in_default.is in
     ap (are_given (g.R.Reads.symbols c.args.read.now) c.args.at.now) (sym c.deref-cell-items.ensures.value)
     ∙ some_fails (λ d. is_some (look d)) cells c.loop-cell.cell-index c.cell-item.result c.loop-cell-test.true c.cell-item.is (ap is_some none)
 

@@ -2,7 +2,7 @@ use Rattle.std.proofs.Common.{◌≡◌, ap, sym, subst, arith}
 use Rattle.std.specs.Prelude.{true}
 use Rattle.dd_expansion.specs.Limits.{depth, formula_fits}
 use Rattle.dd_formula.specs.ByCases.{IsCaseOver}
-use Rattle.dd_maps.specs.{Guarded.guarded, Pairs.guarded_of, Refusals.PassesGuard, Refusals.IsMarkedFault}
+use Rattle.dd_maps.specs.{Guarded.guarded, Pairs.guarded_of, Refusals.IsGuardedShallow, Refusals.IsMarkedFault}
 use Rattle.dd_maps.proofs.{Formed.guarded_fits, Cases.single, Faults.err_says, Faults.marked_refused}
 use Rattle.dd_maps.proofs.pairs.marked.Goals as goal
 
@@ -24,5 +24,5 @@ returns-clause-fault c =
     let s = c.args.sets.now in
     let y = c.args.rule.now in
     let is = c.in_ok-formula.ensures.value in
-    let shallow : PassesGuard s y = omega (arith, ap depth is, c.keeps_depth.ensures.0 c.if-not-keeps_depth.false) in
+    let shallow : IsGuardedShallow s y = omega (arith, ap depth is, c.keeps_depth.ensures.0 c.if-not-keeps_depth.false) in
     err_says c.by_cases.result _ (IsMarkedFault g s y) (marked_refused g s y c.requires.rule c.in_ok-formula.ensures.kept shallow) (rw is at c.by_cases.ensures.fault)

@@ -2,7 +2,7 @@ use Rattle.std.proofs.Common.{◌≡◌, ℕ, suc, ◌+◌, ◌*◌, ◌<◌, �
 use Rattle.std.proofs.lemmas.List.{length-append}
 use Rattle.std.specs.List.{All}
 use Rattle.dd_meancycle.specs.declared.edges.Edge.{Edge}
-use Rattle.dd_meancycle.specs.table.Levels.{at, row, level, AreRows, IsRowUpTo, IsUpToIn, IsEdgeOf}
+use Rattle.dd_meancycle.specs.table.Levels.{at, row, level, AreRows, IsRowUpTo, IsEntryUpTo, IsEdgeOf}
 use Rattle.dd_meancycle.proofs.{LevelLaws.row_length, Steps.rows_push, Steps.read_row, Steps.row_up}
 use Rattle.dd_meancycle.proofs.levels.levels.Goals as goal
 
@@ -17,7 +17,7 @@ next-requires-clause-small c =
     let r = read_row c.args.edges.now c.args.states c.loop-k.k c.loop-k.levels.items c.index.result.now c.loop-k.invariant.rows (omega arith) c.index.ensures in
     let below : c.loop-k.k ≤ c.args.states = omega arith in
     let some : 0 < c.args.states = omega arith in
-    λ v. subst (λ (x : List (Option ℕ)). IsUpToIn 2147483648 (at x v)) (sym r) (row_up c.args.edges.now c.args.states c.loop-k.k v c.requires.edges some below)
+    λ v. subst (λ (x : List (Option ℕ)). IsEntryUpTo 2147483648 (at x v)) (sym r) (row_up c.args.edges.now c.args.states c.loop-k.k v c.requires.edges some below)
 
 pub loop-k-preserved : goal.loop-k-preserved
 loop-k-preserved c =

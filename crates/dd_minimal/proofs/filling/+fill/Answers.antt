@@ -4,7 +4,7 @@ use Rattle.std.specs.List.{flat_map, range_with_len}
 use Rattle.dd_formula.specs.LocalRule.{rule_allows}
 use Rattle.dd_forbidden.specs.{listing.Extensions.AreSymbols, listing.Extensions.AreOf, lemmas.SayingLaws.rest_of}
 use Rattle.dd_minimal.specs.{declared.outcome.Outcome.Outcome, declared.outcome.Outcome.TheVariants.Barred, Minimal.words}
-use Rattle.dd_minimal.specs.finding.Outcomes.{outcome_behind, known_outcome}
+use Rattle.dd_minimal.specs.finding.Outcomes.{outcome_after, known_outcome}
 use Rattle.dd_minimal.proofs.FillSteps.{leaf, all_settled, one_more, all_parts, part, part_allowed, part_barred}
 use Rattle.dd_minimal.proofs.filling.+fill.Goals.{then-allows+in_ok-push+in_ok-fill, else-allows+in_ok-fill_known}
 use Rattle.dd_values.specs.lemmas.Lists.{taken_off}
@@ -62,8 +62,8 @@ loop-symbol-preserved t c =
     let symbol = c.loop-symbol.symbol in
     let n = length later in
     let split : c.args.rest.now ≡ cell ∷ later = c.in-Some.ensures.cases.0 in
-    let made : List ℕ → List Outcome = λ ss. map (outcome_behind r a later ss) (words r.symbols n) in
-    let parts = part (outcome_behind r a c.args.rest.now begun) r.symbols n in
+    let made : List ℕ → List Outcome = λ ss. map (outcome_after r a later ss) (words r.symbols n) in
+    let parts = part (outcome_after r a c.args.rest.now begun) r.symbols n in
     elim c.if-allows.branch [
       | then-allows+in_ok-push+in_ok-fill w ↦
           let stack : w.push-then-allows.new.self ≡ begun ++ symbol ∷ [] = w.in_ok-push.ensures.ok ∙ ap (λ (ss : List ℕ). ss ++ symbol ∷ []) c.loop-symbol.invariant.0 in
@@ -83,7 +83,7 @@ loop-symbol-preserved t c =
 pub returns-clause-table : goal.returns-clause-table
 returns-clause-table t c =
     let r = c.args.rule.now in
-    let f = outcome_behind r c.args.node c.args.rest.now c.args.symbols.now in
+    let f = outcome_after r c.args.node c.args.rest.now c.args.symbols.now in
     let n = length c.in-Some.later.now in
     let end : c.loop-symbol.symbol ≡ r.symbols = (let past = c.loop-symbol-test.false in let most = c.loop-symbol.auto.symbol-end in let all = c.symbols-symbol-end.ensures.value in omega (arith, past, most, all)) in
     c.loop-symbol.invariant.1 ∙ ap (λ (bs : List Outcome). c.args.table.now ++ bs) (ap (λ k. flat_map (part f r.symbols n) (range_with_len 0 k)) end

@@ -4,7 +4,7 @@ use Rattle.dd_lattice.specs.{Order.cell_cmp, declared.position.Cell.Cell}
 use Rattle.dd_topology.specs.lemmas.OrderLaws.{sorted-in_order}
 use Rattle.dd_formula.specs.LocalRule.{cells_at, reads_at}
 use Rattle.dd_forbidden.specs.{listing.Extensions.AreOf, lemmas.SayingLaws.says_rule, lemmas.SayingLaws.reads_of_nodes}
-use Rattle.dd_minimal.specs.{declared.outcome.Outcome.Outcome, Minimal.words, finding.Outcomes.outcome_behind}
+use Rattle.dd_minimal.specs.{declared.outcome.Outcome.Outcome, Minimal.words, finding.Outcomes.outcome_after}
 use Rattle.dd_minimal.proofs.filling.outcomes.Goals as goal
 
 pub new-ranks-requires : goal.new-ranks-requires
@@ -26,6 +26,6 @@ pub returns : goal.returns
 returns c =
     let r = c.args.rule.now in
     let a = c.args.node in
-    let made : List ℕ → List Cell → List Outcome = λ ss cs. map (outcome_behind r a cs ss) (words r.symbols (length cs)) in
+    let made : List ℕ → List Cell → List Outcome = λ ss cs. map (outcome_after r a cs ss) (words r.symbols (length cs)) in
     c.in_ok-fill.ensures.table ∙ (ap (λ (bs : List Outcome). bs ++ made c.new-symbols.result c.reads-cells.result.now) c.new-table.ensures
     ∙ (ap (λ ss. made ss c.reads-cells.result.now) c.new-symbols.ensures ∙ ap (made []) c.reads-cells.ensures.value))

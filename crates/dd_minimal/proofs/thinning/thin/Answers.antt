@@ -2,7 +2,7 @@ use Rattle.std.proofs.Common.{◌≡◌, ◌<◌, ◌+◌, ◌-◌, ◌*◌, ◌
 use Rattle.std.proofs.lemmas.List.{length-map}
 use Rattle.dd_minimal.specs.finding.{Numbers.digits, Numbers.reach, States.IsThinnedTo, Walks.none_holds}
 use Rattle.dd_minimal.proofs.ThinSteps.{start_in, step_in, stride_in, end}
-use Rattle.dd_minimal.proofs.thinning.thin.Goals.{then-can_spare+in_ok-push+in_ok-push-2, else-can_spare+in_ok-push-3}
+use Rattle.dd_minimal.proofs.thinning.thin.Goals.{then-can_leave_out+in_ok-push+in_ok-push-2, else-can_leave_out+in_ok-push-3}
 use Rattle.dd_minimal.proofs.thinning.thin.Goals as goal
 
 pub loop-stride-init : goal.loop-stride-init
@@ -22,8 +22,8 @@ overflow_sub-without c =
     c.requires.symbols c.requires.strides c.loop-stride-test.true c.digit-symbol.ensures c.loop-stride.invariant in
     step.fits
 
-pub can_spare-requires-clause-reach : goal.can_spare-requires-clause-reach
-can_spare-requires-clause-reach c =
+pub can_leave_out-requires-clause-reach : goal.can_leave_out-requires-clause-reach
+can_leave_out-requires-clause-reach c =
     let m = c.args.symbols in
     let stride = slice_index_or c.args.strides.now c.loop-stride.stride-index 0 in
     let without = c.loop-stride.from - c.digit-symbol.result * stride in
@@ -34,8 +34,8 @@ can_spare-requires-clause-reach c =
     subst (λ k. without + reach m (c.as_slice.result.now ++ stride ∷ []) < k) long
     (subst (λ ds. without + reach m (ds ++ stride ∷ []) < m ^ length (digits m c.args.strides.now c.args.at)) (sym c.as_slice.ensures.value) step.within)
 
-pub can_spare-requires-clause-kept : goal.can_spare-requires-clause-kept
-can_spare-requires-clause-kept c =
+pub can_leave_out-requires-clause-kept : goal.can_leave_out-requires-clause-kept
+can_leave_out-requires-clause-kept c =
     let m = c.args.symbols in
     let stride = slice_index_or c.args.strides.now c.loop-stride.stride-index 0 in
     let step = step_in m c.args.table.now c.args.strides.now c.args.at c.loop-stride.stride-index c.digit-symbol.result c.loop-stride.pattern c.loop-stride.left_out.items c.loop-stride.from
@@ -55,23 +55,23 @@ loop-stride-preserved c =
     let without = c.loop-stride.from - symbol * stride in
     let step = step_in m table c.args.strides.now c.args.at k symbol p ds c.loop-stride.from
     c.requires.symbols c.requires.strides c.loop-stride-test.true c.digit-symbol.ensures c.loop-stride.invariant in
-    let test : none_holds m (ds ++ stride ∷ []) table without ≡ c.can_spare.result =
-    ap (λ es. none_holds m (es ++ stride ∷ []) table without) (sym c.as_slice.ensures.value) ∙ sym c.can_spare.ensures in
-    elim c.if-can_spare.branch [
-      | then-can_spare+in_ok-push+in_ok-push-2 w ↦
-          let put : c.if-can_spare.pattern ≡ p ++ None ∷ [] = w.pattern-is ∙ w.in_ok-push-2.ensures.ok in
-          let left : c.if-can_spare.left_out.items ≡ ds ++ stride ∷ [] = ap (λ v. v.items) w.left_out-is ∙ w.in_ok-push.ensures.items in
-          let moved : c.if-can_spare.from ≡ without = w.from-is in
-          subst (λ q. IsThinnedTo m table ss (k + 1) q c.if-can_spare.left_out.items c.if-can_spare.from) (sym put)
-          (subst (λ es. IsThinnedTo m table ss (k + 1) (p ++ None ∷ []) es c.if-can_spare.from) (sym left)
-          (subst (λ x. IsThinnedTo m table ss (k + 1) (p ++ None ∷ []) (ds ++ stride ∷ []) x) (sym moved) (step.leave (test ∙ w.if-can_spare.true))))
-      | else-can_spare+in_ok-push-3 w ↦
-          let put : c.if-can_spare.pattern ≡ p ++ Some symbol ∷ [] = w.pattern-is ∙ w.in_ok-push-3.ensures.ok in
-          let left : c.if-can_spare.left_out.items ≡ ds = ap (λ v. v.items) w.left_out-is in
-          let moved : c.if-can_spare.from ≡ c.loop-stride.from = w.from-is in
-          subst (λ q. IsThinnedTo m table ss (k + 1) q c.if-can_spare.left_out.items c.if-can_spare.from) (sym put)
-          (subst (λ es. IsThinnedTo m table ss (k + 1) (p ++ Some symbol ∷ []) es c.if-can_spare.from) (sym left)
-          (subst (λ x. IsThinnedTo m table ss (k + 1) (p ++ Some symbol ∷ []) ds x) (sym moved) (step.keep (test ∙ w.if-can_spare.false))))
+    let test : none_holds m (ds ++ stride ∷ []) table without ≡ c.can_leave_out.result =
+    ap (λ es. none_holds m (es ++ stride ∷ []) table without) (sym c.as_slice.ensures.value) ∙ sym c.can_leave_out.ensures in
+    elim c.if-can_leave_out.branch [
+      | then-can_leave_out+in_ok-push+in_ok-push-2 w ↦
+          let put : c.if-can_leave_out.pattern ≡ p ++ None ∷ [] = w.pattern-is ∙ w.in_ok-push-2.ensures.ok in
+          let left : c.if-can_leave_out.left_out.items ≡ ds ++ stride ∷ [] = ap (λ v. v.items) w.left_out-is ∙ w.in_ok-push.ensures.items in
+          let moved : c.if-can_leave_out.from ≡ without = w.from-is in
+          subst (λ q. IsThinnedTo m table ss (k + 1) q c.if-can_leave_out.left_out.items c.if-can_leave_out.from) (sym put)
+          (subst (λ es. IsThinnedTo m table ss (k + 1) (p ++ None ∷ []) es c.if-can_leave_out.from) (sym left)
+          (subst (λ x. IsThinnedTo m table ss (k + 1) (p ++ None ∷ []) (ds ++ stride ∷ []) x) (sym moved) (step.leave (test ∙ w.if-can_leave_out.true))))
+      | else-can_leave_out+in_ok-push-3 w ↦
+          let put : c.if-can_leave_out.pattern ≡ p ++ Some symbol ∷ [] = w.pattern-is ∙ w.in_ok-push-3.ensures.ok in
+          let left : c.if-can_leave_out.left_out.items ≡ ds = ap (λ v. v.items) w.left_out-is in
+          let moved : c.if-can_leave_out.from ≡ c.loop-stride.from = w.from-is in
+          subst (λ q. IsThinnedTo m table ss (k + 1) q c.if-can_leave_out.left_out.items c.if-can_leave_out.from) (sym put)
+          (subst (λ es. IsThinnedTo m table ss (k + 1) (p ++ Some symbol ∷ []) es c.if-can_leave_out.from) (sym left)
+          (subst (λ x. IsThinnedTo m table ss (k + 1) (p ++ Some symbol ∷ []) ds x) (sym moved) (step.keep (test ∙ w.if-can_leave_out.false))))
     ]
 
 pub returns : goal.returns

@@ -1,5 +1,5 @@
 use Rattle.std.proofs.Common.{rules, refl, inl, inr}
-use Rattle.dd_session.specs.{Written.CutShort, Asking.HeaderTaken}
+use Rattle.dd_session.specs.{Written.CutShort, Asking.HeaderWritten}
 use Rattle.dd_session.proofs.{Engaging.taken_before, Headers.header_is, Numbered.few_queries}
 use Rattle.dd_session.proofs.Streamed.{cut_at_start, cut_in_header, cut_in_answers, whole_output}
 use Rattle.dd_session.proofs.stream.run_script.Goals as goal
@@ -34,7 +34,7 @@ returns-in_err-write_whole-clause-late g c = inl refl
 
 pub returns-clause-late : goal.returns-clause-late
 returns-clause-late g c =
-    let taken : HeaderTaken (g.K.Sink.held c.args.sink.now) (g.K.Sink.held c.answer_to_end.new.sink) c.args.bytes.now =
+    let taken : HeaderWritten (g.K.Sink.held c.args.sink.now) (g.K.Sink.held c.answer_to_end.new.sink) c.args.bytes.now =
     taken_before _ _ _ _ _ c.deref.result.now c.answer_to_end.result (header_is c.args.bytes.now c.deref.result.now (search rules)) c.in_ok-write_whole.ensures.whole
     c.answer_to_end.ensures.whole c.answer_to_end.ensures.cut in
     inr taken

@@ -2,7 +2,7 @@ use Rattle.std.proofs.Common.{◌≡◌, ◌<◌, ℕ, List, false, arith, map, 
 use Rattle.std.proofs.lemmas.List.{length-map, take-map, get_or-map}
 use Rattle.std.specs.Prelude.{bytes_eq}
 use Rattle.dd_topology.specs.Builtin.{has_repeat}
-use Rattle.dd_topology.proofs.TableLaws.{not_named}
+use Rattle.dd_topology.proofs.RepeatLaws.{not_named}
 use Rattle.dd_topology.proofs.builtin.names_of.Goals as goal
 
 -- the next text is not among the names added so far

@@ -1,4 +1,4 @@
-use Rattle.dd_topology.proofs.TableLaws.{not_twice}
+use Rattle.dd_topology.proofs.RepeatLaws.{not_twice}
 use Rattle.dd_topology.proofs.builtin.topology_of.Goals as goal
 
 pub unreachable-requires : goal.unreachable-requires

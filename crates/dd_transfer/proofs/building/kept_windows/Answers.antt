@@ -1,6 +1,6 @@
 use Rattle.std.proofs.{Common.◌+◌, Common.Bool, Common.List, Common.ap, Common.sym, Common.subst, Common.arith, lemmas.Grind.common_steps}
 use Rattle.dd_strip.specs.declared.strip.Strip.{Strip}
-use Rattle.dd_transfer.specs.{Windows.Shown, Windows.AreWindows, placing.Formulas.ArePlaces}
+use Rattle.dd_transfer.specs.{Windows.Shown, Windows.AreWindows, placing.Formulas.AreFormulas}
 use Rattle.dd_transfer.proofs.Written.{advanced, full, kept_more}
 use Rattle.dd_transfer.proofs.building.kept_windows.Goals as goal
 
@@ -11,8 +11,8 @@ is_kept-requires-clause-window c =
 pub is_kept-requires-clause-formulas : goal.is_kept-requires-clause-formulas
 is_kept-requires-clause-formulas c =
     let r = c.args.rule.now in
-    subst (λ (s : Strip). ArePlaces r s c.as_slice.result.now) (sym (ap (λ (w : Shown). w.strip) c.loop-number.invariant.window_is))
-    (subst (ArePlaces r c.args.strip) (sym c.as_slice.ensures) c.in_ok-formulas.ensures)
+    subst (λ (s : Strip). AreFormulas r s c.as_slice.result.now) (sym (ap (λ (w : Shown). w.strip) c.loop-number.invariant.window_is))
+    (subst (AreFormulas r c.args.strip) (sym c.as_slice.ensures) c.in_ok-formulas.ensures)
 
 pub loop-number-preserved : goal.loop-number-preserved
 loop-number-preserved c =

@@ -1,5 +1,5 @@
-use Rattle.dd_transfer.proofs.Saying.{ArePlacesBelow}
+use Rattle.dd_transfer.proofs.Saying.{AreFormulasBelow}
 use Rattle.dd_transfer.proofs.placing.formulas.Given as goal
 
 abbrev pub invariant-loop-number : goal.invariant-loop-number
-invariant-loop-number l = ArePlacesBelow l.rule l.fn.strip l.number l.formulas
+invariant-loop-number l = AreFormulasBelow l.rule l.fn.strip l.number l.formulas

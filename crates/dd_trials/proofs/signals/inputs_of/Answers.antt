@@ -1,4 +1,4 @@
-use Rattle.dd_trials.proofs.Ascending.{one_more}
+use Rattle.dd_trials.proofs.Wirings.{one_more}
 use Rattle.dd_trials.proofs.signals.inputs_of.Goals as goal
 use Rattle.dd_lattice.specs.lemmas.InOrderLaws.{turn_after}
 

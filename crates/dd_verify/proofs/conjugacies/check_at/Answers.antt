@@ -7,5 +7,5 @@ pub returns-clause-writable : goal.returns-clause-writable
 returns-clause-writable c =
     let taken =
     c.as_slice-refutation.ensures
-    ∙ (c.index-steps-number.is ∙ get_or_default c.args.steps.now c.args.number c.index-steps-number.result [] c.requires.steps) in
+    ∙ (c.index-steps-at.is ∙ get_or_default c.args.steps.now c.args.at c.index-steps-at.result [] c.requires.steps) in
     subst (λ steps. IfOk c.check_yes.result (λ accepted. IsTrue accepted → IsWritableRefutation steps)) taken c.check_yes.ensures.writable

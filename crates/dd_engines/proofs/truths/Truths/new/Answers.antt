@@ -1,7 +1,7 @@
 use Rattle.std.proofs.Common.{◌≡◌, ◌<◌, ◌^◌, ◌+◌, ◌/◌, ℕ, Bool, true, List, length, map, replicate, get_or, subst, sym, ap, ◌∙◌, arith}
 use Rattle.std.proofs.lemmas.{Grind.common_steps, List.length-map, List.Elements.All-more}
 use Rattle.dd_clause.specs.declared.clause.Literal.{Literal}
-use Rattle.dd_engines.specs.walking.Truths.{IsListed, true_count}
+use Rattle.dd_engines.specs.walking.Truths.{HasMarks, true_count}
 use Rattle.dd_engines.proofs.Counting.{all_marked}
 use Rattle.dd_engines.proofs.truths.Truths.new.Goals as goal
 
@@ -20,5 +20,5 @@ returns-clause-listed c =
     let all : counts ≡ map (true_count c.args.values.now) c.args.clauses.now = grind (arith, common_steps) in
     let size = ap length all ∙ length-map c.args.clauses.now (true_count c.args.values.now) in
     let marks : c.in_ok-vec.field-0.items ≡ replicate (length c.args.clauses.now / 32 + 1) true = grind (arith, common_steps) in
-    subst (λ (marks : List Bool). IsListed counts marks 0)
+    subst (λ (marks : List Bool). HasMarks counts marks 0)
     (sym (marks ∙ ap (λ (n : ℕ). replicate (n / 32 + 1) true) (sym size))) (all_marked counts)

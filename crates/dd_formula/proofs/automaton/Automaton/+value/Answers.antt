@@ -4,7 +4,7 @@ use Rattle.std.specs.List.{list_all}
 use Rattle.dd_lattice.specs.declared.position.Cell.{Cell}
 use Rattle.dd_pattern.specs.Filling.{filling_look}
 use Rattle.dd_expansion.specs.Terms.{origin_at}
-use Rattle.dd_formula.specs.{declared.automaton.Automaton.Automaton, Automata.value, Automata.cells_of, Automata.is_cell_of, Values.is_read}
+use Rattle.dd_formula.specs.{declared.automaton.Automaton.Automaton, Automata.value, Automata.cells_of, Automata.is_cell_of, Values.are_reads_given}
 use Rattle.dd_formula.specs.{valuing.Readable.IsReadable, lemmas.AutomatonLaws.node_at, lemmas.AutomatonLaws.passes_at}
 use Rattle.dd_formula.proofs.SeenLaws.{inner_readable, outer_readable, composed_is, readable_there, value_there, values_more, where_given, not_given, seen_there}
 use Rattle.dd_formula.proofs.automaton.Automaton.+value.Goals as goal
@@ -42,7 +42,7 @@ values_near-unreachable-requires t c =
     let f : Automaton = c.args.self.now in
     let look = filling_look c.args.near.now in
     let cell : Cell = c.cell-item.result in
-    let given = passes_at (λ d. is_read f d look) c.args.cells.now c.loop-cell.cell-index cell c.requires.given c.loop-cell-test.true c.cell-item.is in
+    let given = passes_at (λ d. are_reads_given f d look) c.args.cells.now c.loop-cell.cell-index cell c.requires.given c.loop-cell-test.true c.cell-item.is in
     absurd (not_given look cell.position c.in_ok-there.there.items (where_given f cell look c.in_ok-there.there.items c.in_ok-there.ensures.list given) c.in_ok-moved.field-0 c.in_ok-moved.ensures c.in_default.is)
 
 pub values_near-value_near-requires : goal.values_near-value_near-requires

@@ -9,11 +9,11 @@ use Rattle.dd_written.specs.{Values.word_text, Lexemes.lexemes_of}
 use Rattle.dd_commands.specs.{Table.row as table_row, declared.command.Request.Request, declared.script.Written.Written}
 use Rattle.dd_commands.specs.{declared.script.Syntax.Syntax, Commands.IsRequest, Commands.request_text}
 use Rattle.dd_commands.specs.Scripts.{parts, is_whole, MayStand, AreCommands, IsScript}
-use Rattle.dd_sampling.proofs.Cutting.{AreDigits}
-use Rattle.dd_sampling.proofs.Lexing.{Stands, number_at, up_word, up_lexeme, word_up, four_numbers, turn_numbers}
-use Rattle.dd_sampling.proofs.Whole.{front_text, tail_text, front_lexemes, tail_lexemes, all_lexemes, whole, symbols_at, tail_at, from_digits, regrouped, tail_stands, lexed}
-use Rattle.dd_sampling.proofs.Tree.{word_at, w, n, hard, row, dies, zero_rule, dom, hard_text, row_text, dies_text, zero_text, dom_text, member_hard, row_hard, hard_row, hard_equals_row, zero_dies, density_dom, discharge_dom, vector, plus, questions, up_vector, up_request, limits_tokens, limits_written, rule_written, conf_tokens, conf_written, question_written, defined, commands}
-use Rattle.dd_sampling.proofs.Layers.{hard_is, row_is, dies_is, zero_is, dom_is, hard_written, row_written, dies_written, zero_written, dom_written}
+use Rattle.dd_sample_laws.proofs.Cutting.{AreDigits}
+use Rattle.dd_sample_laws.proofs.Lexing.{Stands, number_at, up_word, up_lexeme, word_up, four_numbers, turn_numbers}
+use Rattle.dd_sample_laws.proofs.Whole.{front_text, tail_text, front_lexemes, tail_lexemes, all_lexemes, whole, symbols_at, tail_at, from_digits, regrouped, tail_stands, lexed}
+use Rattle.dd_sample_laws.proofs.Tree.{word_at, w, n, hard, row, dies, zero_rule, dom, hard_text, row_text, dies_text, zero_text, dom_text, member_hard, row_hard, hard_row, hard_equals_row, zero_dies, density_dom, discharge_dom, vector, plus, questions, up_vector, up_request, limits_tokens, limits_written, rule_written, conf_tokens, conf_written, question_written, defined, commands}
+use Rattle.dd_sample_laws.proofs.Layers.{hard_is, row_is, dies_is, zero_is, dom_is, hard_written, row_written, dies_written, zero_written, dom_written}
 use Rattle.dd_written.specs.declared.lexeme.Lexeme.TheVariants as lexeme
 use Rattle.dd_written.specs.declared.lexeme.Mark.TheVariants as mark
 use Rattle.dd_written.specs.declared.tree.Name.TheVariants as name

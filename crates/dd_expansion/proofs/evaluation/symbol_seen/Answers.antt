@@ -1,7 +1,7 @@
 use Rattle.std.proofs.Common.{sym, ◌∙◌}
 use Rattle.dd_lattice.specs.{Place.moved, Place.is_in_range, Cells.cell, Cells.shifted, lemmas.RangeLaws.of_sum, lemmas.RangeLaws.of_no_sum}
 use Rattle.dd_pattern.specs.Reading.{Look}
-use Rattle.dd_expansion.proofs.evaluation.symbol_near.Goals as goal
+use Rattle.dd_expansion.proofs.evaluation.symbol_seen.Goals as goal
 
 pub returns-in_err-position : goal.returns-in_err-position
 returns-in_err-position g c =

@@ -5,7 +5,7 @@ use Rattle.std.specs.List.{repeat}
 use Rattle.dd_written.specs.Values.{decimal as value_from}
 use Rattle.dd_commands.specs.{declared.script.Syntax.Syntax, Scripts.IsScript}
 use Rattle.dd_sample.specs.Sample.{IsSampleNumber, sample_text, rules_text, queries_text}
-use Rattle.dd_sampling.proofs.{Cutting.AreDigits, Whole.whole, Whole.regrouped, Standing.tree, Standing.whole_written}
+use Rattle.dd_sample_laws.proofs.{Cutting.AreDigits, Whole.whole, Whole.regrouped, Standing.tree, Standing.whole_written}
 
 digits_more : (ds : List ℕ) (d : ℕ) → AreDigits ds → 48 ≤ d → d ≤ 57 → AreDigits (ds ++ d ∷ [])
 digits_more [] d all low high = (low, high, tt)

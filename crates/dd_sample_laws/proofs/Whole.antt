@@ -9,8 +9,8 @@ use Rattle.dd_tokens.specs.Format.{tokens_after, tokens_of, with_front}
 use Rattle.dd_written.specs.declared.lexeme.Lexeme.{Lexeme}
 use Rattle.dd_written.specs.Lexemes.{lexeme_of, lexemes_of, stray, marked, mark_at}
 use Rattle.dd_sample.specs.Sample.{rules_text, queries_text}
-use Rattle.dd_sampling.proofs.Cutting.{up_token, tokens_up, number_token, mark_token, AreDigits, number_before, turn, turn_tokens, turns}
-use Rattle.dd_sampling.proofs.Lexing.{Stands, stands_behind, stands_after, up_lexeme, lexemes_up, number_at, turn_numbers, turn_lexemes}
+use Rattle.dd_sample_laws.proofs.Cutting.{up_token, tokens_up, number_token, mark_token, AreDigits, number_before, turn, turn_tokens, turns}
+use Rattle.dd_sample_laws.proofs.Lexing.{Stands, stands_behind, stands_after, up_lexeme, lexemes_up, number_at, turn_numbers, turn_lexemes}
 use Rattle.dd_written.specs.declared.lexeme.Mark.TheVariants as mark
 use Rattle.dd_written.specs.declared.lexeme.Lexeme.TheVariants as lexeme
 

@@ -6,7 +6,7 @@ use Rattle.dd_written.specs.declared.tree.Formula.{Formula, roll-Formula, TheOpe
 use Rattle.dd_commands.specs.declared.{table.QueryKind.QueryKind, command.Entry.Entry, command.Vector.Vector}
 use Rattle.dd_commands.specs.declared.{command.Request.Request, command.Command.Command, script.Written.Written}
 use Rattle.dd_commands.specs.Commands.{request_text}
-use Rattle.dd_sampling.proofs.Lexing.{number_at, up_word, up_number}
+use Rattle.dd_sample_laws.proofs.Lexing.{number_at, up_word, up_number}
 use Rattle.dd_written.specs.declared.lexeme.Lexeme.TheVariants as lexeme
 use Rattle.dd_written.specs.declared.lexeme.Mark.TheVariants as mark
 use Rattle.dd_written.specs.declared.tree.Name.TheVariants as name
@@ -32,8 +32,9 @@ n s = lexeme.Number (number_at s 1)
 
 -- ---- formulas
 
--- A term is a variable, followed by moves. A move is a label after a dot, such as `.rt`, and goes along an edge of the topology. These are the terms
--- with the variable written at s and no move, the move written at m, and the moves written at m and k.
+-- A term is a variable, followed by moves. A move is a label after a dot, such as `.rt`, and goes along an edge of the topology. Each of the three
+-- terms below begins with the variable written at s. The first has no move, the second has the move written at m, and the third has the moves written
+-- at m and k.
 
 abbrev pub here : ℕ → Term
 here s = record { first = word_at s 1; moves = [] }

@@ -15,15 +15,15 @@ use Rattle.dd_script.specs.Parts.{Parts}
 use Rattle.dd_script.specs.Walk.{located, start, limit_of, fault_of, next, with, first_from, first_located_fault, script_of}
 use Rattle.dd_script.specs.Scripts.{Spells}
 use Rattle.dd_sample.specs.Sample.{IsSampleNumber, sample_text}
-use Rattle.dd_sampling.proofs.Lexing.{Stands, number_at, turn_numbers}
-use Rattle.dd_sampling.proofs.Whole.{front_text, tail_text, from_digits, regrouped, tail_stands, symbols_stand, symbols_at, tail_at}
-use Rattle.dd_sampling.proofs.Tree.{word_at, vector, plus, hard, row, dies, zero_rule, dom, hard_text, row_text, dies_text, zero_text, dom_text, limits_written, rule_written, conf_written, question_written, commands, questions, up_request, member_hard, row_hard, hard_row, hard_equals_row, zero_dies, density_dom, discharge_dom}
-use Rattle.dd_sampling.proofs.{Standing.tree, Standing.whole_written, Heights.Height, Heights.height_of, Heights.sample_is}
-use Rattle.dd_sampling.proofs.Meant.{plain_rule, hard_meant, row_meant, dies_meant, zero_meant, dom_meant}
-use Rattle.dd_sampling.proofs.Sizes.{known, hard_few, row_few, dies_few, zero_few, dom_few}
-use Rattle.dd_sampling.proofs.Faultless.{behind, names_1, names_2, names_3, names_4, names_5, hard_faultless, row_faultless, dies_faultless, zero_faultless, dom_faultless, hard_meaning, row_meaning, dies_meaning, zero_meaning, dom_meaning}
-use Rattle.dd_sampling.proofs.Symbols.{conf_faultless}
-use Rattle.dd_sampling.proofs.Questions.{asked_in, rules_5, member_faultless, row_hard_faultless, hard_row_faultless, equal_faultless, zero_dies_faultless, density_faultless, discharge_faultless, member_few, row_hard_few, hard_row_few, equal_few, zero_dies_few, density_few, discharge_few}
+use Rattle.dd_sample_laws.proofs.Lexing.{Stands, number_at, turn_numbers}
+use Rattle.dd_sample_laws.proofs.Whole.{front_text, tail_text, from_digits, regrouped, tail_stands, symbols_stand, symbols_at, tail_at}
+use Rattle.dd_sample_laws.proofs.Tree.{word_at, vector, plus, hard, row, dies, zero_rule, dom, hard_text, row_text, dies_text, zero_text, dom_text, limits_written, rule_written, conf_written, question_written, commands, questions, up_request, member_hard, row_hard, hard_row, hard_equals_row, zero_dies, density_dom, discharge_dom}
+use Rattle.dd_sample_laws.proofs.{Standing.tree, Standing.whole_written, Heights.Height, Heights.height_of, Heights.sample_is}
+use Rattle.dd_sample_laws.proofs.Meant.{plain_rule, hard_meant, row_meant, dies_meant, zero_meant, dom_meant}
+use Rattle.dd_sample_laws.proofs.Sizes.{known, hard_few, row_few, dies_few, zero_few, dom_few}
+use Rattle.dd_sample_laws.proofs.Faultless.{behind, names_1, names_2, names_3, names_4, names_5, hard_faultless, row_faultless, dies_faultless, zero_faultless, dom_faultless, hard_meaning, row_meaning, dies_meaning, zero_meaning, dom_meaning}
+use Rattle.dd_sample_laws.proofs.Symbols.{conf_faultless}
+use Rattle.dd_sample_laws.proofs.Questions.{asked_in, rules_5, member_faultless, row_hard_faultless, hard_row_faultless, equal_faultless, zero_dies_faultless, density_faultless, discharge_faultless, member_few, row_hard_few, hard_row_few, equal_few, zero_dies_few, density_few, discharge_few}
 use Rattle.dd_written.specs.declared.tree.Name.TheVariants as name
 use Rattle.dd_commands.specs.declared.command.Entry.TheVariants as entry
 use Rattle.dd_faults.specs.declared.fault.Fault.TheVariants as fault
@@ -78,7 +78,7 @@ limits_none more = refl
 limits_next : (more : List ℕ) → next (front_text ++ more) false 1 start limits_written ≡ state [] [] [] [] []
 limits_next more = refl
 
--- the command of the rule `dom`, followed by further commands; each of the four definitions below adds the rule command that comes before
+-- the command of the rule `dom`, followed by further commands; each of the four definitions below puts the preceding rule command in front
 abbrev from_dom : List Written → List Written
 from_dom ws = rule_written 150 155 3 dom_text dom ∷ ws
 
@@ -124,7 +124,7 @@ question_more bytes n p tiles qs a ws none rest =
 abbrev NoneFrom : List ℕ → ℕ → List Tile → List Written → Type 0
 NoneFrom bytes n tiles ws = (qs : List Query) → first_from bytes false n (state names_5 rules_5 (codes "c" ∷ []) tiles qs) ws ≡ None
 
--- the last query command; each of the five definitions below adds the query command that comes before
+-- the last query command; each of the five definitions below puts the preceding query command in front
 abbrev asking_discharge : ℕ → List Written
 asking_discharge p = question_written p discharge_dom ∷ []
 

@@ -2,9 +2,9 @@ use Rattle.std.proofs.Common.{◌≡◌, ◌+◌, ◌*◌, ℕ, Bool, length, ap
 use Rattle.std.specs.List.{list_all, range_with_len}
 use Rattle.dd_minimal.specs.finding.Walks.{none_holds}
 use Rattle.dd_minimal.proofs.{Ranges.within_last, ThinSteps.none_holds_last}
-use Rattle.dd_minimal.proofs.walking.can_spare.Goals.{else-symbol-kept-via-then-symbol-kept+else-not-none_holds, else-symbol-kept-via-else-symbol-kept}
+use Rattle.dd_minimal.proofs.walking.can_leave_out.Goals.{else-symbol-kept-via-then-symbol-kept+else-not-none_holds, else-symbol-kept-via-else-symbol-kept}
 use Rattle.dd_formula.specs.lemmas.CompositionLaws.{passes_more, range_fails}
-use Rattle.dd_minimal.proofs.walking.can_spare.Goals as goal
+use Rattle.dd_minimal.proofs.walking.can_leave_out.Goals as goal
 
 pub overflow_mul-there : goal.overflow_mul-there
 overflow_mul-there c =

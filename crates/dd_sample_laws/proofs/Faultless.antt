@@ -11,10 +11,10 @@ use Rattle.dd_faults.specs.Formulas.{formula_faults, faults_step, atom_faults, q
 use Rattle.dd_faults.specs.Commands.{written_faults}
 use Rattle.dd_known.specs.declared.known.Context.{Context}
 use Rattle.dd_meanings.specs.Formulas.{formula_of, formula_step, atom_of, joined_of, quantified_of, ball_of}
-use Rattle.dd_sampling.proofs.Whole.{front_text}
-use Rattle.dd_sampling.proofs.Tree.{word_at, w, here, step, steps, told, ball, hard, row, dies, zero_rule, dom, hard_text, row_text, dies_text, zero_text, dom_text, rule_written}
-use Rattle.dd_sampling.proofs.Meant.{implied, negation, conjunction, hard_meant, row_meant, dies_meant, zero_meant, dom_meant}
-use Rattle.dd_sampling.proofs.Sizes.{known}
+use Rattle.dd_sample_laws.proofs.Whole.{front_text}
+use Rattle.dd_sample_laws.proofs.Tree.{word_at, w, here, step, steps, told, ball, hard, row, dies, zero_rule, dom, hard_text, row_text, dies_text, zero_text, dom_text, rule_written}
+use Rattle.dd_sample_laws.proofs.Meant.{implied, negation, conjunction, hard_meant, row_meant, dies_meant, zero_meant, dom_meant}
+use Rattle.dd_sample_laws.proofs.Sizes.{known}
 use Rattle.dd_written.specs.declared.tree.Quantifier.TheVariants as quantifier
 use Rattle.dd_faults.specs.declared.fault.Limit.TheVariants as limit
 

@@ -22,12 +22,12 @@ use Rattle.dd_question.specs.declared.excess.Excess.{Excess}
 use Rattle.dd_question.specs.Questions.{membership, box, equality, density, discharge, passed, excess_of}
 use Rattle.dd_question.specs.Boxes.{is_long}
 use Rattle.dd_script.specs.{Parts.Parts, Questions.of_both, Questions.query_excess}
-use Rattle.dd_sampling.proofs.Lexing.{Stands, number_at, up_word, up_number, up_lexeme, word_up, number_up}
-use Rattle.dd_sampling.proofs.Whole.{tail_text}
-use Rattle.dd_sampling.proofs.Tree.{word_at, up_entry, up_vector, up_request, question_written, vector, plus, minus, member_hard, row_hard, hard_row, hard_equals_row, zero_dies, density_dom, discharge_dom}
-use Rattle.dd_sampling.proofs.Meant.{plain_rule, hard_meant, row_meant, dies_meant, zero_meant, dom_meant}
-use Rattle.dd_sampling.proofs.Sizes.{limits, known, row_hard_short, hard_row_short, zero_dies_short, dom_narrow}
-use Rattle.dd_sampling.proofs.Faultless.{standing, names_5}
+use Rattle.dd_sample_laws.proofs.Lexing.{Stands, number_at, up_word, up_number, up_lexeme, word_up, number_up}
+use Rattle.dd_sample_laws.proofs.Whole.{tail_text}
+use Rattle.dd_sample_laws.proofs.Tree.{word_at, up_entry, up_vector, up_request, question_written, vector, plus, minus, member_hard, row_hard, hard_row, hard_equals_row, zero_dies, density_dom, discharge_dom}
+use Rattle.dd_sample_laws.proofs.Meant.{plain_rule, hard_meant, row_meant, dies_meant, zero_meant, dom_meant}
+use Rattle.dd_sample_laws.proofs.Sizes.{limits, known, row_hard_short, hard_row_short, zero_dies_short, dom_narrow}
+use Rattle.dd_sample_laws.proofs.Faultless.{standing, names_5}
 use Rattle.dd_written.specs.declared.lexeme.Lexeme.TheVariants as lexeme
 use Rattle.dd_written.specs.declared.tree.Name.TheVariants as name
 use Rattle.dd_commands.specs.declared.command.Entry.TheVariants as entry

@@ -8,9 +8,9 @@ use Rattle.dd_written.specs.declared.lexeme.Number.{Number}
 use Rattle.dd_written.specs.Values.{number_text, written_value, unsigned, decimal as value_from}
 use Rattle.dd_faults.specs.{declared.fault.Fault.Fault, Order.when, Order.over, Numbers.token_faults, Boxes.symbol_faults}
 use Rattle.dd_faults.specs.Commands.{written_faults}
-use Rattle.dd_sampling.proofs.{Cutting.turn, Lexing.Stands, Lexing.stands_after, Lexing.number_at, Lexing.four_numbers, Lexing.turn_numbers}
-use Rattle.dd_sampling.proofs.{Whole.front_text, Whole.tail_text, Whole.from_digits, Whole.symbols_at, Tree.conf_written, Sizes.setting}
-use Rattle.dd_sampling.proofs.{Faultless.behind, Faultless.names_5, Questions.none_and}
+use Rattle.dd_sample_laws.proofs.{Cutting.turn, Lexing.Stands, Lexing.stands_after, Lexing.number_at, Lexing.four_numbers, Lexing.turn_numbers}
+use Rattle.dd_sample_laws.proofs.{Whole.front_text, Whole.tail_text, Whole.from_digits, Whole.symbols_at, Tree.conf_written, Sizes.setting}
+use Rattle.dd_sample_laws.proofs.{Faultless.behind, Faultless.names_5, Questions.none_and}
 use Rattle.dd_written.specs.declared.lexeme.Lexeme.TheVariants as lexeme
 use Rattle.dd_written.specs.declared.tree.Name.TheVariants as name
 use Rattle.dd_faults.specs.declared.fault.Fault.TheVariants as fault

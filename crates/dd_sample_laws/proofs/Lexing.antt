@@ -4,7 +4,7 @@ use Rattle.dd_tokens.specs.declared.token.{Token.Token, TokenKind.TokenKind}
 use Rattle.dd_written.specs.declared.lexeme.{Mark.Mark, Word.Word, Number.Number}
 use Rattle.dd_written.specs.{declared.lexeme.Lexeme.Lexeme, Lexemes.lexeme_of, Lexemes.marked, Lexemes.mark_at}
 use Rattle.dd_written.specs.Values.{word_text, number_text}
-use Rattle.dd_sampling.proofs.Cutting.{up_token, turn_tokens}
+use Rattle.dd_sample_laws.proofs.Cutting.{up_token, turn_tokens}
 use Rattle.dd_tokens.specs.declared.token.TokenKind.TheVariants as token
 use Rattle.dd_written.specs.declared.lexeme.Lexeme.TheVariants as lexeme
 

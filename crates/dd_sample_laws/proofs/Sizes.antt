@@ -15,7 +15,7 @@ use Rattle.dd_known.specs.declared.known.{Known.Known, Setting.Setting}
 use Rattle.dd_question.specs.{Boxes.is_long, Densities.has_many_states}
 use Rattle.dd_meanings.specs.Definitions.{rule_faults}
 use Rattle.dd_topology.specs.{Builtin.square, Sets.all_symbols}
-use Rattle.dd_sampling.proofs.Meant.{plain_rule, Counts, hard_meant, row_meant, dies_meant, zero_meant, dom_meant, hard_counts, row_counts, dies_counts, zero_counts, dom_counts}
+use Rattle.dd_sample_laws.proofs.Meant.{plain_rule, Counts, hard_meant, row_meant, dies_meant, zero_meant, dom_meant, hard_counts, row_counts, dies_counts, zero_counts, dom_counts}
 use Rattle.dd_faults.specs.declared.fault.Limit.TheVariants as limit
 
 -- the limits of the searches of a sample
@@ -69,8 +69,8 @@ dom_few = rule_faultless dom_counts refl
 
 -- ---- questions
 
--- A box question of a sample asks whether no configuration that obeys one rule, the premise, breaks another one, the goal's rule. `long_by` says
--- whether a bound for the number of its clauses is greater than the limit. The bound is computed from the premise, the number of clauses of the
+-- A box question of a sample asks whether every configuration that obeys one rule, the premise, also obeys another one, the goal's rule. `long_by`
+-- says whether a bound for the number of its clauses is greater than the limit. The bound is computed from the premise, the number of clauses of the
 -- premise, the number of clauses of the goal's rule, and the cells that the goal's rule reads.
 abbrev long_by : LocalRule → ℕ → ℕ → List Cell → Bool
 long_by x clauses goal cells =

@@ -1,5 +1,5 @@
--- For each kind of written formula: its text, where it may stand in another formula, and its depth. So the formulas of a sample's rules are well
--- formed, and their texts are those that `Tree` lists.
+-- For each kind of written formula: the list of its lexemes, where it may stand in another formula, and its depth. It follows that the formulas of a
+-- sample's rules are well formed, and that their lexemes are those that `Tree` lists.
 use Rattle.std.proofs.Common.{◌≡◌, ℕ, ◌+◌, ◌≤◌, List, [], ◌∷◌, ◌++◌, length, map, Bool, true, ap, arith}
 use Rattle.std.specs.{Prelude.◌&&◌, Prelude.nat_le, Prelude.◌-◌, List.flat_map, List.list_all}
 use Rattle.dd_written.specs.declared.{lexeme.Word.Word, lexeme.Lexeme.Lexeme, tree.Atom.Atom, tree.Ball.Ball}
@@ -7,7 +7,7 @@ use Rattle.dd_written.specs.declared.tree.{Quantifier.Quantifier, Join.Join}
 use Rattle.dd_written.specs.declared.tree.Formula.{Formula, roll-Formula}
 use Rattle.dd_written.specs.declared.tree.Formula.{TheFolds.fold-roll-Formula, TheOpen.Formula-F}
 use Rattle.dd_written.specs.Formulas.{text, text_step, stands, stands_step, tree_depth, tree_depth_step, chain_depth, separated_by, sign, join_rank, capital, ball_text, atom_text, IsWrittenFormula}
-use Rattle.dd_sampling.proofs.Tree.{hard, row, dies, zero_rule, dom, hard_text, row_text, dies_text, zero_text, dom_text}
+use Rattle.dd_sample_laws.proofs.Tree.{hard, row, dies, zero_rule, dom, hard_text, row_text, dies_text, zero_text, dom_text}
 use Rattle.dd_written.specs.declared.lexeme.Lexeme.TheVariants as lexeme
 use Rattle.dd_written.specs.declared.lexeme.Mark.TheVariants as mark
 
