@@ -1,6 +1,6 @@
 //! Circuits, their gates, and the signals that the gates combine. The variables are numbered from 1: first those of the inputs,
-//! and then those of the gates in order. So a gate doesn't store its variable. The members of a gate are signals of earlier
-//! variables.
+//! and then those of the gates in order. So a gate doesn't need to store its variable. The members of a gate are signals of
+//! earlier variables.
 ghost use Rattle.std.specs.Prelude.{◌≡◌, ◌+◌, ◌<◌, ◌≤◌, ◌∷◌, ◌++◌, [], All, IfOk, OnErr};
 ghost use Rattle.dd_values.specs.Bounds.{most_variables};
 ghost use Rattle.dd_circuit.specs.Circuits.{IsSignal, IsGate, AreGates, size, signal_of, opposite};

@@ -9,7 +9,7 @@ use crate::fault::{Fault, Found, Limit, note_if, note_over};
 use crate::names::{is_variable, note_missing, note_variable};
 use dd_known::{Context, MOST_BALLS, MOST_MOVES};
 use dd_values::WIDEST_RADIUS;
-use dd_written::{Atom, Ball, Comparand, Name, Relation, Term, Word, name_text, number_value};
+use dd_written::{Atom, Ball, Comparand, Name, Relation, Term, Word, name_text, absolute_value};
 
 /// Notes the label of a move if the topology has no such label.
 impl Notes<Word> for Context {
@@ -78,7 +78,7 @@ impl<'a> Notes<Ball> for Scope<'a> {
     fn note(&self, ball: &Ball, found: &mut Found) {
         let Scope(context, words) = *self;
         note_variable(&context.text, words, ball.centre, found);
-        let value = number_value(&context.text, ball.radius);
+        let value = absolute_value(&context.text, ball.radius);
         note_over(found, value > WIDEST_RADIUS, Limit::Radius);
     }
 }

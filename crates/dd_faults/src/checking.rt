@@ -18,7 +18,7 @@ use crate::twice::note_twice;
 use dd_commands::{Command, Written};
 use dd_known::{Context, MOST_AXES, MOST_EDGES, MOST_NODES, MOST_SYMBOLS};
 use dd_values::MOST_COMMANDS;
-use dd_written::{Name, number_value};
+use dd_written::{Name, absolute_value};
 use std::alloc::Global;
 
 /// Notes the faults of a header command, that is, a command that is neither a definition nor a query.
@@ -30,7 +30,7 @@ fn note_header(alloc: Global, context: &Context, command: &Command, found: &mut 
     let setting = &known.setting;
     match command {
         Command::Dimension { number } => {
-            note_dimension_unless(found, matches!(number_value(text, *number), 1..=MOST_AXES));
+            note_dimension_unless(found, matches!(absolute_value(text, *number), 1..=MOST_AXES));
         }
         Command::Nodes { names } => {
             note_twice(alloc, text, names.as_slice(), found)?;
@@ -113,8 +113,9 @@ fn note_command(alloc: Global, context: &Context, command: &Command, found: &mut
 
 /// Accepts a command that has no faults. `context` is the context of this command.
 ///
-/// # Errors `At` with the first among the command's faults of the lowest rank. `Memory` if memory ran out, or if a list has
-/// more items than any list of a script can have.
+/// # Errors
+/// `At` with the first among the command's faults of the lowest rank. `Memory` if memory ran out, or if a list has more items
+/// than any list of a script can have.
 pub fn check(alloc: Global, context: &Context, written: &Written) -> Result<(), Refusal>
     requires written { IsWritten context.now.text written.now }
     requires sound { IsSound context.now.known }

@@ -12,7 +12,7 @@ use dd_commands::Edge;
 use dd_known::{Context, Known};
 use dd_topology::{Kind, Topology};
 use dd_values::{GREATEST_PERIOD, GREATEST_RADIUS, MOST_PIVOTS};
-use dd_written::{Name, Number, Text, name_text, number_value};
+use dd_written::{Name, Number, Text, name_text, absolute_value};
 use std::alloc::{AllocError, Global};
 
 /// Whether the built-in topology of this kind has the script's dimension and, if the script has named its nodes, as many nodes
@@ -62,9 +62,9 @@ pub(crate) fn is_restricted(context: &Context, node: Name) -> bool
 pub(crate) fn exceeds_limits(text: &Text, radius: Number, period: Number, pivots: Number) -> bool
     ensures { result ≡ exceeds_limits (written_value text.now radius) (written_value text.now period) (written_value text.now pivots) }
 {
-    let period = number_value(text, period);
-    number_value(text, radius) > GREATEST_RADIUS
+    let period = absolute_value(text, period);
+    absolute_value(text, radius) > GREATEST_RADIUS
         || period < 1
         || period > GREATEST_PERIOD
-        || number_value(text, pivots) > MOST_PIVOTS
+        || absolute_value(text, pivots) > MOST_PIVOTS
 }

@@ -11,7 +11,7 @@ use crate::fault::{Fault, Found, Limit, note_if, note_over};
 use dd_commands::{Entry, Vector};
 use dd_known::{Context, FARTHEST, GREATEST_NUMBER, LONGEST_STRIP, MOST_LETTERS};
 use dd_values::{MOST_WEIGHT, WIDEST_RADIUS};
-use dd_written::{Lexeme, Number, Text, number_value};
+use dd_written::{Lexeme, Number, Text, absolute_value};
 
 /// Notes the fault `Dimension`, unless `fits` is true.
 pub(crate) fn note_dimension_unless(found: &mut Found, fits: bool)
@@ -28,7 +28,7 @@ impl Notes<Lexeme> for Text {
         match *token {
             Lexeme::Word(word) => note_over(found, word.length > MOST_LETTERS, Limit::Word),
             Lexeme::Number(number) | Lexeme::Negative(number) => {
-                let value = number_value(self, number);
+                let value = absolute_value(self, number);
                 note_over(found, value > GREATEST_NUMBER, Limit::Number);
             }
             Lexeme::Mark(_) | Lexeme::Stray => {}
@@ -41,7 +41,7 @@ pub(crate) fn entry_value(text: &Text, entry: Entry) -> u32
     ensures { result ≡ min (entry_value text.now entry) 4294967295 }
 {
     let (Entry::Number(number) | Entry::Negative(number)) = entry;
-    number_value(text, number)
+    absolute_value(text, number)
 }
 
 /// The value of an entry, with its sign. The entry must be at most `FARTHEST` in absolute value.
@@ -51,8 +51,8 @@ pub fn signed_value(text: &Text, entry: Entry) -> i32
     ensures near { unsigned_abs result ≤ farthest }
 {
     match entry {
-        Entry::Number(number) => number_value(text, number) as i32,
-        Entry::Negative(number) => -(number_value(text, number) as i32),
+        Entry::Number(number) => absolute_value(text, number) as i32,
+        Entry::Negative(number) => -(absolute_value(text, number) as i32),
     }
 }
 
@@ -81,7 +81,7 @@ impl<'a> Notes<Number> for Asked<'a> {
     ghost faults = { λ asked. radius_faults asked.0.now };
 
     fn note(&self, radius: &Number, found: &mut Found) {
-        let value = number_value(&self.0.text, *radius);
+        let value = absolute_value(&self.0.text, *radius);
         note_over(found, value > WIDEST_RADIUS, Limit::Radius);
     }
 }
@@ -91,7 +91,7 @@ impl Notes<Number> for Context {
     ghost faults = { weight_faults };
 
     fn note(&self, weight: &Number, found: &mut Found) {
-        let value = number_value(&self.text, *weight);
+        let value = absolute_value(&self.text, *weight);
         note_over(found, value > MOST_WEIGHT, Limit::Weight);
     }
 }

@@ -26,8 +26,9 @@ use std::alloc::{AllocError, Global};
 ///
 /// If every node allows all symbols, the guarded formula is the rule's own.
 ///
-/// # Errors `Depth` if the guarded formula is more than 64 deep. Otherwise `Instances` if the automaton has more than 20,000
-/// instances at some node, as `Automaton::instances` counts them. `Memory` if memory ran out.
+/// # Errors
+/// `Depth` if the guarded formula is more than 64 deep. Otherwise `Instances` if the automaton has more than 20,000 instances
+/// at some node, as `Automaton::instances` counts them. `Memory` if memory ran out.
 pub fn marked(
     alloc: Global,
     topology: &Topology,
@@ -109,8 +110,9 @@ fn composed_with(alloc: Global, outer: Automaton, inner: &Automaton) -> Result<A
 /// everywhere. They give a cell different symbols exactly when, in the image under `map`, the cell has a symbol that its node
 /// doesn't allow, or `target` is false at the cell.
 ///
-/// # Errors `Depth` if the target's guarded formula is more than 64 deep. Otherwise `Instances`, `Reach` or `Depth` if the
-/// composition exceeds the limit that the fault names; the limits are tested in this order. `Memory` if memory ran out.
+/// # Errors
+/// `Depth` if the target's guarded formula is more than 64 deep. Otherwise `Instances`, `Reach` or `Depth` if the composition
+/// exceeds the limit that the fault names; the limits are tested in this order. `Memory` if memory ran out.
 pub fn image_pair(
     alloc: Global,
     topology: &Topology,

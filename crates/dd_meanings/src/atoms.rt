@@ -13,7 +13,7 @@ use dd_faults::{names_symbol, number_in, place_among};
 use dd_known::Context;
 use dd_values::Items;
 use dd_written::{
-    Atom, Ball, Comparand, Name, Relation, Term as Written, Text, Word, name_text, number_value,
+    Atom, Ball, Comparand, Name, Relation, Term as Written, Text, Word, name_text, absolute_value,
 };
 use std::alloc::Global;
 
@@ -154,7 +154,7 @@ pub(crate) fn balls(
     for written in balls {
         made.push(BallOf {
             variable: variable(&context.text, scope, written.centre),
-            radius: number_value(&context.text, written.radius),
+            radius: absolute_value(&context.text, written.radius),
         })?;
     }
     Ok(made)

@@ -13,7 +13,7 @@ use dd_faults::number_in;
 use dd_known::Context;
 use dd_topology::{Kind, Topology};
 use dd_values::{Items, Limits};
-use dd_written::{Name, Number, number_value};
+use dd_written::{Name, Number, absolute_value};
 use std::alloc::Global;
 
 pub(crate) fn dimension(alloc: Global, context: &Context, number: Number) -> Resolved
@@ -21,7 +21,7 @@ pub(crate) fn dimension(alloc: Global, context: &Context, number: Number) -> Res
     requires faultless { faults_of context.now (command.Dimension number) ≡ [] }
     ensures { Means result context.now [] (command.Dimension number) }
 {
-    let dimension = number_value(&context.text, number);
+    let dimension = absolute_value(&context.text, number);
     let nodes = context.known.setting.nodes.count();
     let topology = default_topology(alloc, dimension, nodes)?;
     // This call tells the proof what the type guarantees.
@@ -108,7 +108,7 @@ pub(crate) fn weights(alloc: Global, context: &Context, weights: &[Number]) -> R
     let text = &context.text;
     let values: Vec<u32> = weights
         .iter()
-        .map(|weight| number_value(text, *weight))
+        .map(|weight| absolute_value(text, *weight))
         .collect(alloc)?;
     Ok(Meaning::Weights(Items::from_vec(values)))
 }
@@ -119,8 +119,8 @@ pub(crate) fn limits(context: &Context, radius: Number, period: Number, pivots: 
 {
     let text = &context.text;
     Ok(Meaning::Limits(Limits {
-        radius: number_value(text, radius),
-        period: number_value(text, period),
-        pivots: number_value(text, pivots),
+        radius: absolute_value(text, radius),
+        period: absolute_value(text, period),
+        pivots: absolute_value(text, pivots),
     }))
 }

@@ -18,8 +18,9 @@ pub trait Sink {
 
     /// Writes a prefix of the piece and returns its length, which is at least 1 unless the piece is empty.
     ///
-    /// # Errors `Failed` if the write failed. Then nothing was written, and the count of faults rose, unless it was already
-    /// 2^64 - 1. A later write may succeed.
+    /// # Errors
+    /// `Failed` if the write failed. Then nothing was written, and the count of faults rose, unless it was already 2^64 - 1. A
+    /// later write may succeed.
     fn write(&mut self, piece: &[u8]) -> Result<usize, Failed>
         ensures bound { WritesAtMost result piece.now }
         ensures some { IfOk result (λ count. 0 < length piece.now → 0 < count) }

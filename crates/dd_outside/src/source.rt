@@ -20,8 +20,9 @@ pub trait Source {
     /// Reads bytes into the start of a slice and returns how many. It returns 0 only at the end of the source, or if the
     /// slice is empty.
     ///
-    /// # Errors `Failed` if the read failed. Then nothing was read, and the count of faults rose, unless it was already 2^64 -
-    /// 1. A later read may succeed.
+    /// # Errors
+    /// `Failed` if the read failed. Then nothing was read, and the count of faults rose, unless it was already 2^64 - 1. A
+    /// later read may succeed.
     fn read(&mut self, into: &mut [u8]) -> Result<usize, Failed>
         ensures bound { ReadsAtMost result into.new }
         ensures bytes { ReadConsumes (left self.old) (left self.new) result into.new }

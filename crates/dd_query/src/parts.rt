@@ -13,7 +13,7 @@ use dd_faults::{number_in, period_at};
 use dd_known::Context;
 use dd_lattice::Position;
 use dd_values::Items;
-use dd_written::{Name, Text, number_value};
+use dd_written::{Name, Text, absolute_value};
 use std::alloc::{AllocError, Global};
 
 /// The number of the rule, automaton or configuration that the word at the index `place` names. The word's role says which of
@@ -34,7 +34,7 @@ pub(crate) fn value_at(context: &Context, request: &Request, place: usize) -> u3
     ensures { result ≡ min (value_at context.now request.now place) 4294967295 }
 {
     let number = request.numbers.get(place);
-    number.map_or(0, |number| number_value(&context.text, *number))
+    number.map_or(0, |number| absolute_value(&context.text, *number))
 }
 
 /// The periods of a strip along the second and the third axis; 1 along an axis for which none is given.

@@ -1,4 +1,4 @@
--- No sample is too long for a script.
+-- No sample is longer than a script may be.
 use Rattle.std.proofs.Common.{◌≡◌, ℕ, zero, suc, ◌+◌, ◌*◌, ◌≤◌, List, ◌++◌, length, codes, decimal, refl, arith, length-append}
 use Rattle.std.specs.List.{repeat}
 use Rattle.std.proofs.lemmas.Fmt.{length-decimal-le_succ}

@@ -2,7 +2,8 @@
 ghost use Rattle.std.specs.Prelude.{◌≡◌, ◌⊎◌, ◌↔◌, IsTrue, slice_index};
 ghost use Rattle.dd_sample.specs.Sample.{IsNumberOf};
 
-// The greatest sample number. The box of that sample's configuration has 65,536 symbols, as many as a configuration may have.
+// The greatest sample number. The box of that sample's configuration has 65,536 symbols, as many as the box of a configuration
+// may have.
 const LARGEST: u32 = 16_384;
 
 // Whether the word begins with a plus or a zero. `parse` accepts numbers that begin this way, but no sample's number is written

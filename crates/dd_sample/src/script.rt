@@ -7,7 +7,7 @@ use std::alloc::{AllocError, Global};
 
 /// The sample script with this number. The box of its configuration is 2 cells wide and 2 * `number` high. Only the first query
 /// is about this configuration. The others are three containments, an equality, a density and a discharging bound. The last
-/// containment holds, as a search shows on the box of radius 3. The text fits into a script. `AllocError` if memory ran out.
+/// containment holds, as its answer YES 3 shows. The text isn't longer than a script may be. `AllocError` if memory ran out.
 #[tactic(auto, unfolding(crate::specs::Sample::sample_text), using(crate::proofs::Lengths::sample_fits))]
 pub fn sample_script(alloc: Global, number: u32) -> Result<Vec<u8>, AllocError>
     requires { IsSampleNumber number }

@@ -1,4 +1,4 @@
--- A formula with `IsWrittenFormula` is read from its text, unless the tokens that follow could continue it.
+-- A formula that satisfies `IsWrittenFormula` is read from its text, unless the tokens that follow could continue it.
 use Rattle.std.proofs.Common.{◌≡◌, ℕ, zero, suc, ◌-◌, ◌+◌, ◌≤◌, ◌<◌, Bool, true, false, List, [], ◌∷◌, ◌++◌, map, length, drop, Some, refl, ap, subst, ◌∙◌, append_assoc, arith, inl, inr, nat_le, ◌&&◌}
 use Rattle.std.specs.List.{flat_map, list_all, AllByRecursion}
 use Rattle.std.proofs.lemmas.Bool.{and_parts, cases_eq, ltb-true, le-leb, leb-true}

@@ -8,7 +8,7 @@ decimal_cut : (v w : ℕ) (digits : List ℕ) → min v 4294967295 ≡ min w 429
 decimal_cut v w [] e = e
 decimal_cut v w (d ∷ digits) e = decimal_cut (v * 10 + (d - 48)) (w * 10 + (d - 48)) digits (omega (arith, e))
 
--- after one more digit, the new value is within the limit, and it still comes to the same total with the digits that are left
+-- after one more digit, the new value is within the limit, and followed by the digits that are left it still gives the same total
 pub decimal_more : (digits : List ℕ) (i old new total : ℕ) → i < length digits → min (decimal old (drop i digits)) 4294967295 ≡ total → new ≡ min (old * 10 + (get_or digits i 0 - 48)) 4294967295
     → (new ≤ 4294967295) × (min (decimal new (drop (i + 1) digits)) 4294967295 ≡ total)
 decimal_more digits i old new total lt so_far made = (

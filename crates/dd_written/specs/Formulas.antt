@@ -67,8 +67,8 @@ join_rank Join.Implies = 3
 join_rank Join.Iff = 4
 
 -- Whether a formula may stand without parentheses at a place, given the places at which its parts may stand. Each part must be able to stand at the
--- part's own place. A quantifier must have at least one ball. A chain must have at least two parts, and it may stand only at the rank of its sign and
--- at looser places.
+-- place that it has in the formula. A quantifier must have at least one ball. A chain must have at least two parts, and it may stand only at the rank
+-- of its sign and at looser places.
 abbrev pub stands_step : Formula-F (ℕ → Bool) → ℕ → Bool
 stands_step (Formula-F.Atom a) place = true
 stands_step (Formula-F.Not f) place = f 0

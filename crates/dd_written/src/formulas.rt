@@ -231,8 +231,9 @@ fn chain(alloc: Global, budget: u32, join: Join, tokens: &[Lexeme]) -> Read<'_, 
 
 /// The longest formula at the front of the tokens, and the tokens after it.
 ///
-/// # Errors `Syntax` if the tokens don't begin with a formula, if a part of the formula is followed by a sign after which no
-/// further part comes, or if the formula is deeper than 64. `Memory` if memory ran out.
+/// # Errors
+/// `Syntax` if the tokens don't begin with a formula, if a part of the formula is followed by a sign after which no further
+/// part comes, or if the formula is deeper than 64. `Memory` if memory ran out.
 pub fn read_formula(alloc: Global, tokens: &[Lexeme]) -> Read<'_, Formula>
     ensures { Gives (λ x. (x.0, x.1.now)) result (formula_at tokens.now) }
 {

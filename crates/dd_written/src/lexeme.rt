@@ -66,7 +66,7 @@ pub enum Lexeme {
     Word(Word),
     /// Digits. Only the number 0 begins with the digit 0.
     Number(Number),
-    /// A `-` that is directly followed by a number other than 0.
+    /// A `-` and, directly after it, a number other than 0.
     Negative(Number),
     /// A mark.
     Mark(Mark),

@@ -74,7 +74,7 @@ pub fn name_text(text: &Text, name: Name) -> &str
 }
 
 /// The absolute value of a number, capped at 4,294,967,295.
-pub fn number_value(text: &Text, number: Number) -> u32
+pub fn absolute_value(text: &Text, number: Number) -> u32
     ensures { result ≡ min (written_value text.now number) 4294967295 }
 {
     match part(text.bytes.as_slice(), number.start, number.length) {

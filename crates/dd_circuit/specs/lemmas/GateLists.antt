@@ -15,7 +15,7 @@ AreGates-append n (g ∷ gs) hs first rest =
 pub AreGates-snoc : (n : ℕ) (gs : List Gate) (g : Gate) → AreGates n gs → IsGate (n + length gs) g → AreGates n (gs ++ g ∷ [])
 AreGates-snoc n gs g first last = AreGates-append n gs (g ∷ []) first (last, tt)
 
--- if the first k gates are dropped, each of the other gates is over the variables 1..n + k and those of the other gates before it
+-- if the first k gates are dropped, each of the other gates is over the variables 1 to n + k and those of the other gates before it
 pub AreGates-drop : (n : ℕ) (gs : List Gate) (k : ℕ) → AreGates n gs → k ≤ length gs → AreGates (n + k) (drop k gs)
 AreGates-drop n gs zero ok few = let e : n + 0 ≡ n = omega arith in rw e ok
 AreGates-drop n [] (suc k) ok few = absurd (omega arith)

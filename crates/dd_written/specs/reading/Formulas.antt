@@ -1,4 +1,4 @@
--- Readers of formulas. A reader of chains takes the reader of the parts as an argument.
+-- Readers of formulas. A reader of chains is made from a reader of their parts.
 use Rattle.std.specs.Prelude.{ℕ, zero, suc, ◌-◌, drop, List, [], ◌∷◌, length, Bool, true, false, nat_le, nat_lt, if◌then◌else◌, Some, None}
 use Rattle.dd_written.specs.Tree.{Mark, Lexeme, Quantifier, Join, Formula, roll-Formula, Formula-F}
 use Rattle.dd_written.specs.Formulas.{join_rank, tree_depth}

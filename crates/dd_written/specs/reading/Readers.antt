@@ -17,7 +17,7 @@ abbrev pub Fails : {Y : Type 0} → ReadFault → Option Y → Type 0
 Fails ReadFault.Memory read = Unit {0}
 Fails ReadFault.Syntax read = read ≡ None
 
--- a function that implements a reader may return this result: a value that `view` takes to what the reader reads, or a fault with which the function
+-- a function that implements a reader may return this result: a value that `view` maps to what the reader reads, or a fault with which the function
 -- may fail
 abbrev pub Gives : {X Y : Type 0} → (X → Y) → Result X ReadFault → Option Y → Type 0
 Gives view (Ok x) read = read ≡ Some (view x)
