@@ -2,7 +2,7 @@
 use Rattle.std.specs.Prelude.{◌≡◌, ℕ, ◌*◌, ◌≤◌, List, ◌++◌, codes, Option, Some, None}
 use Rattle.std.specs.{List.repeat, Fmt.decimal}
 
--- There is a sample with this number. The box of sample 16384's configuration has as many symbols as the box of a configuration may have.
+-- There is a sample with this number. The box of sample 16384's configuration has as many symbols as a box may have.
 abbrev pub IsSampleNumber : ℕ → Type 0
 IsSampleNumber number = (1 ≤ number) × (number ≤ 16384)
 

@@ -2,12 +2,10 @@
 ghost use Rattle.std.specs.Prelude.{◌≡◌, ◌⊎◌, ◌↔◌, IsTrue, slice_index};
 ghost use Rattle.dd_sample.specs.Sample.{IsNumberOf};
 
-// The greatest sample number. The box of that sample's configuration has 65,536 symbols, as many as the box of a configuration
-// may have.
+// The greatest sample number. The box of that sample's configuration has 65,536 symbols, the most that a box may have.
 const LARGEST: u32 = 16_384;
 
-// Whether the word begins with a plus or a zero. `parse` accepts numbers that begin this way, but no sample's number is written
-// this way.
+// Whether the word begins with a plus or a zero. `parse` accepts such words, but no sample's number is written like this.
 fn is_led(word: &str) -> bool
     ensures { IsTrue result ↔ (slice_index word.now 0 ≡ 43) ⊎ (slice_index word.now 0 ≡ 48) }
 {
