@@ -9,7 +9,7 @@ use crate::fault::{Fault, Found, Limit, note_if, note_over};
 use crate::names::{is_variable, note_missing, note_variable};
 use dd_known::{Context, MOST_BALLS, MOST_MOVES};
 use dd_values::WIDEST_RADIUS;
-use dd_written::{Atom, Ball, Comparand, Name, Relation, Term, Word, name_text, absolute_value};
+use dd_written::{Atom, Ball, Comparand, Name, Relation, Term, Word, absolute_value, name_text};
 
 /// Notes the label of a move if the topology has no such label.
 impl Notes<Word> for Context {

@@ -30,7 +30,10 @@ fn note_header(alloc: Global, context: &Context, command: &Command, found: &mut 
     let setting = &known.setting;
     match command {
         Command::Dimension { number } => {
-            note_dimension_unless(found, matches!(absolute_value(text, *number), 1..=MOST_AXES));
+            note_dimension_unless(
+                found,
+                matches!(absolute_value(text, *number), 1..=MOST_AXES),
+            );
         }
         Command::Nodes { names } => {
             note_twice(alloc, text, names.as_slice(), found)?;

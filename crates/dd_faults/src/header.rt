@@ -12,7 +12,7 @@ use dd_commands::Edge;
 use dd_known::{Context, Known};
 use dd_topology::{Kind, Topology};
 use dd_values::{GREATEST_PERIOD, GREATEST_RADIUS, MOST_PIVOTS};
-use dd_written::{Name, Number, Text, name_text, absolute_value};
+use dd_written::{Name, Number, Text, absolute_value, name_text};
 use std::alloc::{AllocError, Global};
 
 /// Whether the built-in topology of this kind has the script's dimension and, if the script has named its nodes, as many nodes

@@ -13,7 +13,7 @@ use dd_faults::{names_symbol, number_in, place_among};
 use dd_known::Context;
 use dd_values::Items;
 use dd_written::{
-    Atom, Ball, Comparand, Name, Relation, Term as Written, Text, Word, name_text, absolute_value,
+    Atom, Ball, Comparand, Name, Relation, Term as Written, Text, Word, absolute_value, name_text,
 };
 use std::alloc::Global;
 

@@ -29,6 +29,6 @@ pub use formulas::{read_formula, read_name};
 pub use laws::formula_is_read;
 pub use lexeme::{Lexeme, Mark, Number, Word};
 pub use lexing::lexemes;
-pub use text::{Text, name_text, absolute_value};
+pub use text::{Text, absolute_value, name_text};
 pub use tree::{Atom, Ball, Comparand, Formula, Join, Name, Quantifier, Relation, Term};
 pub use words::{same_bytes, word_bytes};
