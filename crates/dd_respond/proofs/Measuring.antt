@@ -6,7 +6,7 @@ use Rattle.std.specs.Int.{IsGcd}
 use Rattle.dd_lattice.specs.Place.{Place}
 use Rattle.dd_expansion.specs.Limits.{greatest}
 use Rattle.dd_formula.specs.LocalRule.{LocalRule, IsRule}
-use Rattle.dd_counts.specs.Rules.{state_length, slices, states}
+use Rattle.dd_counts.specs.Rules.{state_length, slice_fillings, states}
 use Rattle.dd_strip.specs.{declared.strip.Strip.Strip, Strips.positions, Strips.IsStrip, Strips.strip_for}
 use Rattle.dd_transfer.specs.Certificates.{IsDensityCertificate, IsEmptyCertificate}
 use Rattle.dd_strips.specs.{Strips.IsLeastDensity, Claims.StripLeast, Claims.StripEmpty, Claims.spread_of}
@@ -40,7 +40,7 @@ density_right least empty x strip ws rule narrow (density.Empty ranks) h =
 -- the rule's transfer graph over a strip (see dd_transfer) has at least one state
 some_state : (x : LocalRule) (s : Strip) → IsRule x → 1 ≤ states x (positions s)
 some_state x s rule =
-    one-le-pow (state_length x) (slices x (positions s)) (one-le-pow (x.nodes * positions s) x.symbols rule.symbols.0)
+    one-le-pow (state_length x) (slice_fillings x (positions s)) (one-le-pow (x.nodes * positions s) x.symbols rule.symbols.0)
 
 pub density_fits : (x : LocalRule) (strip ws : List ℕ) → IsRule x → IsNarrow x strip ws → (d : Density) →
     IsCertifiedDensity x (strip_for x strip) ws d → IsSmallDensity x (strip_for x strip) d → IsWritable (written_density d)
