@@ -4,7 +4,7 @@ use Rattle.dd_known.specs.declared.known.Setting.{Setting}
 use Rattle.dd_formula.specs.{LocalRule.LocalRule, Automata.CommonNumbers, Automata.IsAutomaton, ByCases.numbers_over}
 use Rattle.dd_formula.specs.declared.automaton.Automaton.{Automaton, TheVariants.Composed}
 use Rattle.dd_pairs.specs.declared.pair.Pair.{Pair}
-use Rattle.dd_maps.specs.{Pairs.marked, Pairs.always_zero, Pairs.identity, Refusals.PassesGuard}
+use Rattle.dd_maps.specs.{Pairs.marked, Pairs.always_zero, Pairs.identity, Refusals.IsGuardedShallow}
 use Rattle.dd_pairs.specs.{Comparisons.ComparisonOf, Comparisons.image, Comparisons.change, Comparisons.pair_of, Comparisons.HaveGates, Faults.guard_faults, Faults.pair_faults, Made.IsMade}
 use Rattle.dd_meanings.specs.lemmas.SizeLaws.{formed_passes}
 
@@ -28,7 +28,7 @@ module _ (s : Setting) (left right : Automaton) where
         faultless = rw guarded (formed_passes numbers (pair_of s c).left whole);
       }
 
-  pub image_made : (x : LocalRule) (f : Automaton) (y : LocalRule) → AreSame left right (Composed (marked s.topology s.sets y) f) (always_zero s.topology s.sets) → IsAutomaton numbers left × IsAutomaton numbers right → PassesGuard s.sets y
+  pub image_made : (x : LocalRule) (f : Automaton) (y : LocalRule) → AreSame left right (Composed (marked s.topology s.sets y) f) (always_zero s.topology s.sets) → IsAutomaton numbers left × IsAutomaton numbers right → IsGuardedShallow s.sets y
       → HaveGates pair → IsMade s (image x f y) (pair_faults s (image x f y)) pair
   image_made x f y is formed guard gates = made (image x f y) (rw (le-ltb _ _ guard) refl) is formed gates
 

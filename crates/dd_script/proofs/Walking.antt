@@ -3,7 +3,7 @@ use Rattle.std.proofs.Common.{◌≡◌, ℕ, ◌+◌, ◌<◌, ◌≤◌, List,
 use Rattle.std.proofs.lemmas.{Grind.common_steps, List.drop_all, List.Elements.All-get_or}
 use Rattle.std.specs.Option.{option_or, option_map}
 use Rattle.dd_script.specs.{Tree.Lexeme, Tree.Syntax, declared.draft.Draft.Draft, Parts.Parts, Kept.IsScriptOf}
-use Rattle.dd_script.specs.Walk.{start, asked_fault, comparisons_in, Located, located, first_from, after_all, has_topology, first_located_fault, script_of, Written, stage_of, Fault, first_fault, written_faults, Meaning, meaning_of, counted_sizes}
+use Rattle.dd_script.specs.Walk.{start, asked_fault, comparisons_in, Located, located, first_from, after_all, has_topology, first_located_fault, script_of, Written, stage_of, Fault, first_fault, written_faults, Meaning, meaning_of, size_faults}
 use Rattle.dd_script.specs.Scripts.{Spells, kind_of, HasFault}
 use Rattle.dd_script.specs.Drafts.{parts_of, draft_of, with_meaning, fault_at, Means}
 use Rattle.dd_written.specs.Lexemes.{lexemes_of}
@@ -20,7 +20,7 @@ meant d w = meaning_of d.context d.made.automata w.command
 
 -- If the command's text has no fault, and its rule or automaton exceeds no limit (on its instances, on how far away it reads cells, or on its depth),
 -- then the fault of the command, if any, is the one that `asked_fault` gives: the command is a query, and its pairs or questions exceed a limit.
-module _ (d : Draft) (w : Written) (m : Meaning) (none : first_fault (written_faults d.context w) ≡ None) (few : counted_sizes d.context d.made.automata w.command ≡ []) (is : m ≡ meant d w) where
+module _ (d : Draft) (w : Written) (m : Meaning) (none : first_fault (written_faults d.context w) ≡ None) (few : size_faults d.context d.made.automata w.command ≡ []) (is : m ≡ meant d w) where
   pub asked_is : fault_at d w ≡ asked_fault (parts_of d) m
   asked_is = rw (none, few, is)
 

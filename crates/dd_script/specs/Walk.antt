@@ -7,7 +7,7 @@ use Rattle.dd_script.specs.Tree.{Head, Fault, Context}
 pub use Rattle.dd_commands.specs.{declared.script.Written.Written, Scripts.stage_of}
 use Rattle.dd_commands.specs.Heads.{stage}
 pub use Rattle.dd_faults.specs.{declared.fault.Limit.Limit, declared.fault.Fault.Fault, Order.first_fault, Commands.written_faults}
-pub use Rattle.dd_meanings.specs.{declared.meaning.Meaning.Meaning, Meanings.meaning as meaning_of, Meanings.counted_sizes}
+pub use Rattle.dd_meanings.specs.{declared.meaning.Meaning.Meaning, Meanings.meaning as meaning_of, Meanings.size_faults}
 pub use Rattle.dd_pairs.specs.Faults.{limit_of}
 use Rattle.dd_start.specs.Start.{known_start, allowing, unrestricted}
 use Rattle.dd_pairs.specs.{Comparisons.ComparisonOf, Faults.faults_in_order, Faults.earliest}
@@ -82,7 +82,7 @@ meaning_at bytes topology n s w = meaning_of (context bytes topology n s) s.auto
 abbrev pub fault_of : List ℕ → Bool → ℕ → Parts → Written → Option Fault
 fault_of bytes topology n s w =
     option_or (first_fault (written_faults (context bytes topology n s) w))
-    (option_or (first_fault (counted_sizes (context bytes topology n s) s.automata w.command)) (asked_fault s (meaning_at bytes topology n s w)))
+    (option_or (first_fault (size_faults (context bytes topology n s) s.automata w.command)) (asked_fault s (meaning_at bytes topology n s w)))
 
 -- the script after this command, if s is the script before it
 abbrev pub next : List ℕ → Bool → ℕ → Parts → Written → Parts
