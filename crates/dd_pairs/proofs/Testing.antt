@@ -4,7 +4,7 @@ use Rattle.dd_known.specs.{Sound.IsSetting, declared.known.Setting.Setting, decl
 use Rattle.dd_formula.specs.LocalRule.{LocalRule}
 use Rattle.dd_faults.specs.{declared.fault.Limit.Limit, declared.fault.Fault.Fault, declared.fault.Refusal.Refusal, Order.Refuses}
 use Rattle.dd_question.specs.declared.excess.Excess.{Excess}
-use Rattle.dd_question.specs.Questions.{Asked, box, IsFormed, passed, excess_of}
+use Rattle.dd_question.specs.Questions.{Asked, box, IsFormed, exceeded, excess_of}
 use Rattle.dd_pairs.specs.declared.pair.Pair.{Pair}
 use Rattle.dd_pairs.specs.Comparisons.{ComparisonOf, premise, goal_of, pair_of, IsComparisonOf, IsPair, difference}
 use Rattle.dd_pairs.specs.{Faults.limit_of, Faults.pair_faults, Faults.comparison_faults, Faults.earliest, lemmas.ComparisonLaws.comparison_fits}
@@ -17,11 +17,11 @@ module _ (s : Setting) (c : ComparisonOf) (pair : Pair) (x : LocalRule) (a : Ask
   pub question_formed : IsSetting s → IsComparisonOf s c → IsPair s (pair_of s c) → IsFormed a
   question_formed sound of formed = rw question_is (comparison_fits s sound c of formed)
 
-long_passes : (b : Bool) (e : Excess) → passed b Excess.Clauses ≡ Some e → (b ≡ true) × (limit_of e ≡ Limit.Clauses)
+long_passes : (b : Bool) (e : Excess) → exceeded b Excess.Clauses ≡ Some e → (b ≡ true) × (limit_of e ≡ Limit.Clauses)
 long_passes true e is = (refl, grind arith)
 long_passes false e is = absurd cc
 
-short_passes : (b : Bool) → passed b Excess.Clauses ≡ None → b ≡ false
+short_passes : (b : Bool) → exceeded b Excess.Clauses ≡ None → b ≡ false
 short_passes true is = absurd cc
 short_passes false is = refl
 

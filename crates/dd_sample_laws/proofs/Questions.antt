@@ -19,7 +19,7 @@ use Rattle.dd_known.specs.declared.known.Context.{Context}
 use Rattle.dd_query.specs.{declared.queries.Query.Query, Queries.query_of}
 use Rattle.dd_boxes.specs.Goals.{breaks}
 use Rattle.dd_question.specs.declared.excess.Excess.{Excess}
-use Rattle.dd_question.specs.Questions.{membership, box, equality, density, discharge, passed, excess_of}
+use Rattle.dd_question.specs.Questions.{membership, box, equality, density, discharge, exceeded, excess_of}
 use Rattle.dd_question.specs.Boxes.{is_long}
 use Rattle.dd_script.specs.{Parts.Parts, Questions.of_both, Questions.query_excess}
 use Rattle.dd_sample_laws.proofs.Lexing.{Stands, number_at, up_word, up_number, up_lexeme, word_up, number_up}
@@ -220,26 +220,26 @@ module _ (bytes : List ℕ) (p : ℕ) (stands : Stands bytes p tail_text) (tiles
   row_hard_few =
       by_texts contains_by bytes (up_word p (word_at 26 3)) (up_word p (word_at 30 4)) (codes "row") (codes "hard")
       (word_up bytes p tail_text stands (word_at 26 3)) (word_up bytes p tail_text stands (word_at 30 4))
-      ∙ ap (λ (b : Bool). passed b excess.Clauses) row_hard_short
+      ∙ ap (λ (b : Bool). exceeded b excess.Clauses) row_hard_short
 
   pub hard_row_few : excess_at bytes 10 p tiles queries hard_row ≡ None
   hard_row_few =
       by_texts contains_by bytes (up_word p (word_at 45 4)) (up_word p (word_at 50 3)) (codes "hard") (codes "row")
       (word_up bytes p tail_text stands (word_at 45 4)) (word_up bytes p tail_text stands (word_at 50 3))
-      ∙ ap (λ (b : Bool). passed b excess.Clauses) hard_row_short
+      ∙ ap (λ (b : Bool). exceeded b excess.Clauses) hard_row_short
 
   pub equal_few : excess_at bytes 11 p tiles queries hard_equals_row ≡ None
   equal_few =
       by_texts equal_by bytes (up_word p (word_at 61 4)) (up_word p (word_at 66 3)) (codes "hard") (codes "row")
       (word_up bytes p tail_text stands (word_at 61 4)) (word_up bytes p tail_text stands (word_at 66 3))
-      ∙ (ap (λ (b : Bool). passed (b || is_long limits (plain_rule row_meant) (breaks (plain_rule hard_meant))) excess.Clauses) row_hard_short
-      ∙ ap (λ (b : Bool). passed b excess.Clauses) hard_row_short)
+      ∙ (ap (λ (b : Bool). exceeded (b || is_long limits (plain_rule row_meant) (breaks (plain_rule hard_meant))) excess.Clauses) row_hard_short
+      ∙ ap (λ (b : Bool). exceeded b excess.Clauses) hard_row_short)
 
   pub zero_dies_few : excess_at bytes 12 p tiles queries zero_dies ≡ None
   zero_dies_few =
       by_texts contains_by bytes (up_word p (word_at 80 4)) (up_word p (word_at 85 4)) (codes "zero") (codes "dies")
       (word_up bytes p tail_text stands (word_at 80 4)) (word_up bytes p tail_text stands (word_at 85 4))
-      ∙ ap (λ (b : Bool). passed b excess.Clauses) zero_dies_short
+      ∙ ap (λ (b : Bool). exceeded b excess.Clauses) zero_dies_short
 
   pub density_few : excess_at bytes 13 p tiles queries density_dom ≡ None
   density_few =
@@ -247,7 +247,7 @@ module _ (bytes : List ℕ) (p : ℕ) (stands : Stands bytes p tail_text) (tiles
       λ t v. option_and_then (excess_of limits) (option_map (λ x. density x (v ∷ 1 ∷ []) (0 ∷ 1 ∷ [])) (rule_by t)) in
       let five : written_value bytes (up_number p (number_at 104 1)) ≡ 5 = value_up bytes p tail_text stands (number_at 104 1) in
       ap (λ (t : List ℕ). states_by t (written_value bytes (up_number p (number_at 104 1)))) (word_up bytes p tail_text stands (word_at 99 3))
-      ∙ (ap (states_by (codes "dom")) five ∙ ap (λ (b : Bool). passed b excess.States) dom_narrow)
+      ∙ (ap (states_by (codes "dom")) five ∙ ap (λ (b : Bool). exceeded b excess.States) dom_narrow)
 
   pub discharge_few : excess_at bytes 14 p tiles queries discharge_dom ≡ None
   discharge_few = discharge_light _ _ _ _ _
