@@ -122,7 +122,7 @@ module _ (back : AreWrittenBack) (l : Limits) where
   right_is_certificate (asked.box x g) a right = box_is x g a right
   right_is_certificate (asked.equality x y) a right = equal_is x y a right
   right_is_certificate (asked.listing x) a right = right
-  right_is_certificate (asked.smallest x) a right = right
+  right_is_certificate (asked.minimal x) a right = right
   right_is_certificate (asked.conjugacy c) a right = conjugacy_is c a right
   right_is_certificate (asked.least x along ws) a right = least_is x along ws a right
   right_is_certificate (asked.density x strip ws) a right = density_is x strip ws a right

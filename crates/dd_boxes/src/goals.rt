@@ -21,7 +21,7 @@ pub enum Goal<'a> {
 }
 
 /// Does nothing. Its contract says that the goal's rule, if the goal has one, satisfies the invariant of rules.
-pub fn keeps_rule(goal: &Goal)
+pub fn has_valid_rule(goal: &Goal)
     ensures { (x : LocalRule) → HasValidRule (goal_of x goal.now) }
 {
     match goal {

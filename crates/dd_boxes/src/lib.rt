@@ -13,5 +13,5 @@
 mod goals;
 mod laws;
 
-pub use goals::{Goal, keeps_rule, least_radius};
+pub use goals::{Goal, has_valid_rule, least_radius};
 pub use laws::one_box;

@@ -7,7 +7,7 @@ use crate::laws::query_certified;
 use crate::verdict::Verdict;
 use dd_certificate::Answer;
 use dd_script::Script;
-use dd_verify::check_question;
+use dd_verify::check_certificate;
 use std::alloc::{AllocError, Global};
 
 /// The verdict on an answer to the query with the number `query`. Queries are counted from 1, and the script must have a query
@@ -36,7 +36,7 @@ pub fn check_answer(
     query_certified(script, asked);
     let pairs = script.pairs(alloc, asked)?;
     let question = script.question(asked, pairs.as_slice());
-    let accepted = check_question(alloc, &question, answer)?;
+    let accepted = check_certificate(alloc, &question, answer)?;
     if accepted {
         Ok(Verdict::Accepted)
     } else {

@@ -15,7 +15,7 @@ ghost use Rattle.dd_contain.specs.Engines.{AreAsked};
 
 use crate::decision::Decision;
 use crate::search::{Questions, search};
-use dd_boxes::{Goal, keeps_rule, least_radius};
+use dd_boxes::{Goal, has_valid_rule, least_radius};
 use dd_clause::Cnf;
 use dd_derivation::{Outcome, Step, last_number};
 use dd_elimination::solve_propagated;
@@ -174,7 +174,7 @@ pub fn decide<E: Engine>(
     let most = limits.radius.max(least);
     // These calls tell the proof what the types of the premise and the goal guarantee.
     let _symbols = premise.symbols();
-    keeps_rule(goal);
+    has_valid_rule(goal);
     let question = BoxQuestion {
         alloc,
         premise,

@@ -3,7 +3,7 @@ use Rattle.std.specs.Prelude.{◌≡◌, Option, MatchOption}
 use Rattle.dd_formula.specs.{Automata.CommonNumbers, Automata.IsAutomaton, declared.automaton.Automaton.Automaton}
 use Rattle.dd_formed.specs.declared.automata.CommonNumbers.{CommonNumbers as Given}
 
--- the numbers of the code's record, in the record that the definitions use
+-- the code's `CommonNumbers`, as the record of the same name that the definitions use
 abbrev pub numbers_of : Given → CommonNumbers
 numbers_of n = record { dimension = n.dimension; nodes = n.nodes; symbols = n.symbols }
 

@@ -10,7 +10,7 @@ use dd_expansion::Formula;
 const MOST_NESTED: u32 = 64;
 
 /// Whether the formula is at most 64 deep, as every rule's formula is. Allocates nothing.
-pub fn keeps_depth(formula: &Formula) -> bool
+pub fn is_within_depth(formula: &Formula) -> bool
     ensures { IsTrue result ↔ (depth formula.now ≤ most_nested) }
 {
     is_shallow(formula, MOST_NESTED)

@@ -5,7 +5,7 @@ ghost use Rattle.std.specs.Prelude.{◌≡◌, ◌+◌, ◌<◌, ◌^◌, ◌↔
 ghost use Rattle.std.specs.List.{list_all};
 ghost use Rattle.dd_expansion.specs.Limits.{term_fits, ball_fits, balls_fit, formula_fits, depth, IsFormula};
 
-use crate::depth::keeps_depth;
+use crate::depth::is_within_depth;
 use dd_expansion::{BallOf, Formula, Term};
 use dd_topology::Topology;
 
@@ -130,8 +130,8 @@ impl Signature<'_> {
     }
 }
 
-/// Whether the formula is one that `Rule::new` takes, over this topology with `labels` labels and an alphabet of `symbols`
-/// symbols:
+/// Whether the formula is well formed, as `Rule::new` requires, over this topology with `labels` labels and an alphabet of
+/// `symbols` symbols:
 /// - No variable but number 0 is free in it, and each variable, label, node and symbol in it exists.
 /// - Its terms have at most 16 moves, and its quantifiers at most 4 balls, of radius at most 3.
 /// - It is at most 64 deep. A negation, an implication, an equivalence, a quantifier, or a conjunction or disjunction of two or
@@ -147,5 +147,5 @@ pub fn is_formula(topology: &Topology, labels: u32, symbols: u32, formula: &Form
         labels,
         symbols,
     };
-    keeps_depth(formula) && language.fits(1, formula)
+    is_within_depth(formula) && language.fits(1, formula)
 }

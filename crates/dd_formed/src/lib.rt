@@ -16,5 +16,5 @@ mod depth;
 mod formulas;
 
 pub use automata::{CommonNumbers, is_automaton};
-pub use depth::keeps_depth;
+pub use depth::is_within_depth;
 pub use formulas::is_formula;

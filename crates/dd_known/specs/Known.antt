@@ -1,6 +1,6 @@
 -- The dimension of a script's lattice, and the names allowed for a word in a query, by the word's role.
 use Rattle.std.specs.Prelude.{ℕ, List}
-use Rattle.dd_known.specs.Tree.{Role, Known}
+use Rattle.dd_known.specs.Types.{Role, Known}
 
 abbrev pub dimension_of : Known → ℕ
 dimension_of k = k.setting.topology.dimension

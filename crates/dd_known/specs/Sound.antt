@@ -1,8 +1,8 @@
--- The facts that always hold for what a script has defined.
+-- Facts that always hold for what a script has defined.
 use Rattle.std.specs.{Prelude.ℕ, Prelude.◌≡◌, Prelude.◌≤◌, Prelude.List, Prelude.length, List.All}
 use Rattle.dd_values.specs.{Bounds.most_weight, Ranges.AreLimits}
 use Rattle.dd_topology.specs.{Grid.Grid, Grid.IsGrid, Sets.IsSets}
-use Rattle.dd_known.specs.{Tree.Setting, Tree.Known, Limits.most_nodes, Limits.most_symbols}
+use Rattle.dd_known.specs.{Types.Setting, Types.Known, Limits.most_nodes, Limits.most_symbols}
 
 -- a topology with n nodes
 pub record IsGridOf (n : ℕ) (g : Grid) : Type 0 where

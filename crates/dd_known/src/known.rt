@@ -5,7 +5,7 @@ use dd_values::{Items, Limits};
 use dd_written::Text;
 
 /// What rules and automata are defined over: the nodes, the symbols, the topology, and which symbols each node allows. Each
-/// move in a formula is a label of the topology.
+/// move in a formula is given by a label of the topology.
 #[derive(Drop)]
 pub struct Setting {
     /// The names of the nodes, in the order of their numbers.

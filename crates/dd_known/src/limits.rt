@@ -1,8 +1,8 @@
 //! Limits on what a script may write. (Others, such as those on weights and radii, are in `dd_values`.) A term names a cell by
-//! the moves that lead there from the cell of a variable. The ball of radius r around a cell consists of the cells that a path
-//! of at most r edges joins to it. A quantifier ranges over the union of its balls. A torus has a period along every axis, and
-//! a strip has one along every axis but the first. A discharge shows a lower bound on a density by moving weight: for each
-//! vector v of a list, each position p may give weight to the position p + v.
+//! the moves that lead there from the cell of a variable. The ball of radius r around a cell consists of the cells that are
+//! joined to it by a path of at most r edges. A quantifier ranges over the union of its balls. A torus has a period along every
+//! axis, and a strip has one along every axis but the first. A discharge shows a lower bound on a density by moving weight: for
+//! each vector v of a list, each position p may give weight to the position p + v.
 
 /// The greatest dimension.
 pub const MOST_AXES: u32 = 3;

@@ -12,7 +12,7 @@ ghost use Rattle.dd_maps.specs.Images.{DifferAt, BreaksAt, ChangesAt, HasSymbolA
 ghost use Rattle.dd_maps.specs.Refusals.{IsGuardedShallow, IsMarkedFault, IsImageFault};
 
 use crate::guarded::{guarded, symbol_is};
-use dd_formed::keeps_depth;
+use dd_formed::is_within_depth;
 use dd_formula::{Automaton, Formula, Rule, RuleFault};
 use dd_topology::{Sets, Topology};
 use std::alloc::{AllocError, Global};
@@ -45,7 +45,7 @@ pub fn marked(
     ensures fault { IfErr result (IsMarkedFault topology.now sets.now rule.now) }
 {
     let formula = guarded(alloc, sets, rule)?;
-    if !keeps_depth(&formula) {
+    if !is_within_depth(&formula) {
         return Err(RuleFault::Depth);
     }
     let cases = [(formula, 0)];

@@ -12,7 +12,7 @@ use dd_commands::{Command, Request, Written};
 use dd_faults::Refusal;
 use dd_formula::Automaton;
 use dd_known::Context;
-use dd_query::ask;
+use dd_query::query_of;
 use std::alloc::Global;
 
 /// What a command without faults means. `automata` are the automata that were defined before it, in the order of their
@@ -62,6 +62,6 @@ pub fn mean(
             shear,
             symbols,
         } => definitions::configuration(alloc, context, *name, periods, shear, symbols.as_slice()),
-        Command::Query(request) => Ok(Meaning::Query(ask(alloc, context, request)?)),
+        Command::Query(request) => Ok(Meaning::Query(query_of(alloc, context, request)?)),
     }
 }

@@ -10,5 +10,5 @@ mod parts;
 mod queries;
 mod vectors;
 
-pub use queries::{Query, ask};
+pub use queries::{Query, query_of};
 pub use vectors::position_of;

@@ -171,7 +171,7 @@ fn asked(alloc: Global, context: &Context, request: &Request) -> Result<Query, A
 ///
 /// # Errors
 /// `AllocError` if memory ran out.
-pub fn ask(alloc: Global, context: &Context, request: &Request) -> Result<Query, AllocError>
+pub fn query_of(alloc: Global, context: &Context, request: &Request) -> Result<Query, AllocError>
     requires sound { IsSound context.now.known }
     requires written { IsRequest request.now }
     requires faultless { request_faults context.now request.now ≡ [] }

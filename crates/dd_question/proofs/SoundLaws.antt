@@ -9,7 +9,7 @@ use Rattle.dd_strip.specs.Strips.{IsFew, strip_for}
 use Rattle.dd_boxes.specs.Goals.{GoalOf, breaks, AreAlike, IsGoalFor, HasValidRule}
 use Rattle.dd_boxes.specs.{Counts.goal_clauses, Counts.most_clauses, lemmas.ReachLaws.least_is_goal_reach}
 use Rattle.dd_question.specs.declared.excess.Excess.{Excess}
-use Rattle.dd_question.specs.Questions.{Asked, membership, box, equality, listing, smallest, conjugacy, density, least, discharge, IsFormed, exceeded, excess_of, IsSoundAsked}
+use Rattle.dd_question.specs.Questions.{Asked, membership, box, equality, listing, minimal, conjugacy, density, least, discharge, IsFormed, exceeded, excess_of, IsSoundAsked}
 use Rattle.dd_question.specs.Boxes.{clauses_of, is_long, IsAskable, IsFormedBox, IsSoundBox}
 use Rattle.dd_question.specs.Conjugacies.{ConjugacyOf, EachPart, is_some_long}
 use Rattle.dd_question.specs.{Lists.has_many_patterns, Lists.HasFewPatterns, Densities.has_many_states, Densities.strip_volume}
@@ -73,7 +73,7 @@ sound l (equality x y) formed none =
       askable l y (breaks x) formed.1 (turned_round x y formed.2) formed.0 both.1,
     )
 sound l (listing x) formed none = (formed, few_patterns x (within (has_many_patterns x) excess.Patterns none))
-sound l (smallest x) formed none = (formed, few_patterns x (within (has_many_patterns x) excess.Patterns none))
+sound l (minimal x) formed none = (formed, few_patterns x (within (has_many_patterns x) excess.Patterns none))
 sound l (conjugacy c) formed none = sound_parts l c formed (within (is_some_long l c) excess.Clauses none)
 sound l (density x strip ws) formed none = (
   formed.0,

@@ -32,7 +32,7 @@ pub data Asked : Type 0 where
   listing : LocalRule → Asked
   -- Which minimal patterns forbid what the rule forbids? A minimal pattern gives symbols to some of the cells that the rule reads at a node. It makes
   -- the rule false there, whatever allowed symbols the other cells have. None of its cells can be left out.
-  smallest : LocalRule → Asked
+  minimal : LocalRule → Asked
   -- are two maps between the subshifts of two rules inverse to each other?
   conjugacy : ConjugacyOf → Asked
   -- what is the least weight per position of a configuration that obeys the rule and has these periods along the second and the third axis, some
@@ -56,7 +56,7 @@ asked_of (question.Membership rule configuration) = membership rule.now configur
 asked_of (question.Box premise goal) = box premise.now (goal_of premise.now goal)
 asked_of (question.Equality left right) = equality left.now right.now
 asked_of (question.Listing rule) = listing rule.now
-asked_of (question.Smallest rule) = smallest rule.now
+asked_of (question.Minimal rule) = minimal rule.now
 asked_of (question.Conjugacy c) = conjugacy (conjugacy_of c)
 asked_of (question.Density rule strip weights) = density rule.now strip weights.now
 asked_of (question.Least rule periods weights) = least rule.now periods weights.now
@@ -69,7 +69,7 @@ is_box_question (membership x t) = false
 is_box_question (box x g) = true
 is_box_question (equality x y) = true
 is_box_question (listing x) = false
-is_box_question (smallest x) = false
+is_box_question (minimal x) = false
 is_box_question (conjugacy c) = true
 is_box_question (density x strip ws) = false
 is_box_question (least x along ws) = false
@@ -81,7 +81,7 @@ IsFormed (membership x t) = IsRule x × IsTile t × Fits x t × HasAllowed x t
 IsFormed (box x g) = IsFormedBox x g
 IsFormed (equality x y) = IsRule x × IsRule y × AreAlike x y
 IsFormed (listing x) = IsRule x
-IsFormed (smallest x) = IsRule x
+IsFormed (minimal x) = IsRule x
 IsFormed (conjugacy c) = EachPart IsFormedBox c
 IsFormed (density x strip ws) = IsRule x × IsStrip x strip × HasWeights x ws
 IsFormed (least x along ws) = IsRule x × AreTorusPeriods x.dimension x.nodes (periods_of along 0) × HasWeights x ws
@@ -114,7 +114,7 @@ excess_of l (membership x t) = None
 excess_of l (box x g) = exceeded (is_long l x g) excess.Clauses
 excess_of l (equality x y) = exceeded (is_long l x (breaks y) || is_long l y (breaks x)) excess.Clauses
 excess_of l (listing x) = exceeded (has_many_patterns x) excess.Patterns
-excess_of l (smallest x) = exceeded (has_many_patterns x) excess.Patterns
+excess_of l (minimal x) = exceeded (has_many_patterns x) excess.Patterns
 excess_of l (conjugacy c) = exceeded (is_some_long l c) excess.Clauses
 excess_of l (density x strip ws) = exceeded (has_many_states x (strip_volume strip)) excess.States
 excess_of l (least x along ws) = exceeded (has_many_clauses x along ws) excess.Clauses
@@ -126,7 +126,7 @@ IsSoundAsked l (membership x t) = IsRule x × IsTile t × Fits x t × HasAllowed
 IsSoundAsked l (box x g) = IsSoundBox l x g
 IsSoundAsked l (equality x y) = IsRule x × IsRule y × IsAskable l x (breaks y) × IsAskable l y (breaks x)
 IsSoundAsked l (listing x) = IsRule x × HasFewPatterns x
-IsSoundAsked l (smallest x) = IsRule x × HasFewPatterns x
+IsSoundAsked l (minimal x) = IsRule x × HasFewPatterns x
 IsSoundAsked l (conjugacy c) = EachPart (IsSoundBox l) c
 IsSoundAsked l (density x strip ws) = IsRule x × IsNarrow x strip ws
 IsSoundAsked l (least x along ws) = IsRule x × IsWeighable x along ws

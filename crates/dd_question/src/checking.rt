@@ -29,7 +29,7 @@ impl<'a> Question<'a> {
             Question::Box { premise, goal } => check_box(alloc, premise, &goal),
             Question::Equality { left, right } => check_equality(left, right),
             Question::Conjugacy { conjugacy } => check_conjugacy(alloc, &conjugacy),
-            Question::Listing { rule } | Question::Smallest { rule } => {
+            Question::Listing { rule } | Question::Minimal { rule } => {
                 // This call tells the proof what the type `Rule` guarantees.
                 let _nodes = rule.nodes();
                 Ok(())

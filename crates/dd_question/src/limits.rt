@@ -106,7 +106,7 @@ impl Question<'_> {
                 let right_in_left = is_long(alloc, limits, right, &Goal::Breaks(left))?;
                 Ok((left_in_right || right_in_left).then_some(Excess::Clauses))
             }
-            Question::Listing { rule } | Question::Smallest { rule } => {
+            Question::Listing { rule } | Question::Minimal { rule } => {
                 Ok(has_many_patterns(rule).then_some(Excess::Patterns))
             }
             Question::Conjugacy { conjugacy } => {

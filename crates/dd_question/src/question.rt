@@ -34,7 +34,7 @@ pub enum Question<'a> {
     /// Which minimal patterns forbid what the rule forbids? A minimal pattern gives symbols to some of the cells that the rule
     /// reads at a node. It makes the rule false there, whatever allowed symbols the other cells have. None of its cells can be
     /// left out. `dd_minimal` says which list of minimal patterns is the answer.
-    Smallest {
+    Minimal {
         rule: &'a Rule,
     },
     /// Are two maps between the subshifts of two rules inverse to each other?

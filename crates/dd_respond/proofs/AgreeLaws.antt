@@ -309,6 +309,6 @@ module _ (one : AreOneList) (density_one : IsOneDensity) (outcome_one : HaveOneO
   right_agree (asked.density x strip ws) a b ok h k = density_agree density_one x strip ws a b h k
   right_agree (asked.discharge x radius margin vs ws) a b ok h k =
       discharge_agree x radius margin vs ws l.pivots (outcome_one x ws radius margin vs l.pivots) a b h k
-  right_agree (asked.smallest x) a b ok h k = minimal_agree starred_one x a b h k
+  right_agree (asked.minimal x) a b ok h k = minimal_agree starred_one x a b h k
   right_agree (asked.conjugacy c) a b ok h k = conjugacy_agree l c a b h k
   right_agree (asked.least x along ws) a b ok h k = least_agree x along ws a b h k

@@ -66,7 +66,7 @@ IsRightTo l (asked.equality x y) a = IsRightEqual l x y a
 IsRightTo l (asked.listing x) a = IsListCertificate x a
 IsRightTo l (asked.density x strip ws) a = IsRightDensity x strip ws a
 IsRightTo l (asked.discharge x radius margin vs ws) a = IsRightDischarge x radius margin vs ws l.pivots a
-IsRightTo l (asked.smallest x) a = IsMinimalCertificate x a
+IsRightTo l (asked.minimal x) a = IsMinimalCertificate x a
 IsRightTo l (asked.conjugacy c) a = IsRightConjugacy l c a
 IsRightTo l (asked.least x along ws) a = IsRightLeast x along ws a
 

@@ -13,7 +13,7 @@ use std::alloc::{AllocError, Global};
 /// all of the cells that the rule reads at a node, and the rule is false there whatever allowed symbols the other cells have.
 /// If one more cell is left out, this no longer holds. The rule may have other minimal patterns, which aren't listed.
 #[tactic(auto, using(dd_evidence::specs::Answers::all_minimal))]
-pub(crate) fn smallest(alloc: Global, rule: &Rule) -> Result<Answer, AllocError>
+pub(crate) fn minimal(alloc: Global, rule: &Rule) -> Result<Answer, AllocError>
     requires { HasFewPatterns rule.now }
     ensures right { IfOk result (IsMinimalCertificate rule.now) }
     ensures writable { IfOk result IsWritable }

@@ -12,7 +12,7 @@ use crate::densities::least;
 use crate::discharges::discharged;
 use crate::lists::listed;
 use crate::members::member;
-use crate::minimal::smallest;
+use crate::minimal::minimal;
 use crate::tori::lightest;
 use dd_certificate::Answer;
 use dd_engines::{Engine, Roster, kept_is_reflexive};
@@ -53,7 +53,7 @@ fn by_kind<E: Engine>(
             vectors,
             weights,
         } => discharged(alloc, rule, radius, margin, vectors, weights, limits.pivots),
-        Question::Smallest { rule } => smallest(alloc, rule),
+        Question::Minimal { rule } => minimal(alloc, rule),
         Question::Conjugacy { conjugacy } => conjugate(alloc, &conjugacy, limits, roster),
         Question::Least {
             rule,

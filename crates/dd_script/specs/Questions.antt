@@ -31,7 +31,7 @@ asked s (Query.Maps map from to) = of_three (map_question s.known.setting) (slic
 asked s (Query.Conjugate there back from to) =
     of_four (conjugacy_question s.known.setting) (slice_get s.rules from) (slice_get s.rules to) (slice_get s.automata there) (slice_get s.automata back)
 asked s (Query.Forbidden rule) = option_map question.listing (slice_get s.rules rule)
-asked s (Query.Minimal rule) = option_map question.smallest (slice_get s.rules rule)
+asked s (Query.Minimal rule) = option_map question.minimal (slice_get s.rules rule)
 asked s (Query.Density rule strip) = option_map (λ x. question.density x strip s.known.weights) (slice_get s.rules rule)
 asked s (Query.Least rule periods) = option_map (λ x. question.least x periods s.known.weights) (slice_get s.rules rule)
 asked s (Query.Discharge rule radius margin vectors) = option_map (λ x. question.discharge x radius margin vectors s.known.weights) (slice_get s.rules rule)

@@ -61,7 +61,7 @@ pub(crate) fn question_of<'a>(
         Query::Forbidden { rule } => Question::Listing {
             rule: &rules[*rule as usize],
         },
-        Query::Minimal { rule } => Question::Smallest {
+        Query::Minimal { rule } => Question::Minimal {
             rule: &rules[*rule as usize],
         },
         Query::Density { rule, strip } => Question::Density {

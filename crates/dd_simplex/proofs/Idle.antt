@@ -1,5 +1,5 @@
--- Subtracting a product with a factor 0 from a fraction changes nothing, and no number in this step is too large, if the fraction and both factors are
--- in lowest terms and fit.
+-- Let a fraction and the two factors of a product be in lowest terms and fit. If one factor is 0, subtracting the product from the fraction changes
+-- nothing, and no number in this step is too large.
 use Rattle.std.proofs.Common.{◌≡◌, ℕ, ◌*◌, ◌%◌, true, nat_eq, refl, sym, ap, subst, ◌∙◌, arith}
 use Rattle.std.proofs.lemmas.Int.{ints, to_z-of_z}
 use Rattle.std.specs.Int.{RustNames.unsigned_abs, w128}

@@ -1,5 +1,5 @@
--- Whenever a variable enters, another leaves. If no variable limited the entering variable, the entering variable could grow for ever, and column 0
--- with it. But column 0 and the slack of the first row are at least 0, and by the first row they sum to the cap.
+-- Whenever a variable enters, another leaves. If no variable limited the entering variable, the entering variable could grow without bound, and
+-- column 0 with it. But column 0 and the slack of the first row are at least 0, and by the first row they sum to the cap.
 use Rattle.std.proofs.Common.{◌≡◌, ◌≢◌, ℕ, ◌+◌, ◌<◌, Bool, true, false, not, ◌&&◌, ◌||◌, cond, None, ⊎_elim, refl, sym, ap, subst, ◌∙◌, arith}
 use Rattle.std.proofs.lemmas.{Bool.cases_eq, Int.ints}
 use Rattle.std.specs.{Bool.nat_eq, Ordering.is_gt}

@@ -51,7 +51,7 @@ pub record IsCombination (p : LinearProgram) (d : Dictionary) (v : ℕ) : Type 0
       → low (dictionary_coefficient d v j) ≡ fraction_sum (λ k. times (dictionary_coefficient d v (p.columns + k)) (coefficient p k j)) (length p.rows)
   pub bound : low (d.bound v) ≡ fraction_sum (λ k. times (dictionary_coefficient d v (p.columns + k)) (bound_at p k)) (length p.rows)
 
--- The objective is column 0, less a linear combination of the program's rows. The factor of a program row is the opposite of its slack's price.
+-- The objective is column 0, less a linear combination of the program's rows. The factor of a program row is minus the price of its slack.
 pub record IsReducedObjective (p : LinearProgram) (d : Dictionary) : Type 0 where
   pub columns : (j : ℕ) → j < p.columns
       → plus (price d j) (fraction_sum (λ k. times (minus (price d (p.columns + k))) (coefficient p k j)) (length p.rows)) ≡ low (unit 0 j)

@@ -1,6 +1,6 @@
 -- The run by Bland's rule (1977). Of the variables that may enter, the lowest-numbered one enters; of those that may leave, the lowest-numbered one
 -- leaves. A number fits if it is at most 2^127 - 1 in absolute value. The numbers of a sum, a product or a quotient are those that come up before it
--- is brought to lowest terms. The run stops with the best value, at a limit on its pivots, or at a number that doesn't fit.
+-- is reduced to lowest terms. The run stops with the best value, at a limit on its pivots, or at a number that doesn't fit.
 use Rattle.std.specs.Prelude.{◌≡◌, ℕ, zero, suc, ◌+◌, ◌<◌, List, length, Bool, true, not, ◌&&◌, ◌||◌, cond, Option, Some, None}
 use Rattle.std.specs.{Bool.nat_eq, Int.RustNames.int_lt, Ordering.is_gt}
 use lib.IntN.{pos}
@@ -67,7 +67,7 @@ abbrev pub do_ratios_fit : ℕ → Dictionary → ℕ → Bool
 do_ratios_fit n d e = all_below (λ v. not (is_limiting d e v) || does_quotient_fit (d.bound v) (d.entry v e)) n
 
 -- Whether the numbers of the entering variable's row fit. This row is the row of r divided by its entry at e. Before the division, r has the
--- coefficient 1 in it. At w = e, the test is of this 1 divided by the entry, since r takes the place of e.
+-- coefficient 1 in it. At w = e, the quotient of this 1 and the entry is tested, since r takes the place of e.
 abbrev pub does_row_fit : ℕ → Dictionary → ℕ → ℕ → Bool
 does_row_fit n d e r =
     does_quotient_fit (d.bound r) (d.entry r e)

@@ -12,7 +12,7 @@
 //! it becomes nonbasic. A nonbasic variable may enter if its cost is greater than 0. A basic variable may then leave if it
 //! falls to 0 as the entering variable grows, and no other one does so earlier. Bland's rule takes the lowest-numbered variable
 //! that may enter, and the lowest-numbered one that may leave. A run makes pivots by this rule until no variable may enter, or
-//! until it reaches its limit of pivots.
+//! until it reaches its limit on pivots.
 //!
 //! A number is too large if it is greater than 2^127 - 1 in absolute value. A run fails if an intermediate number of a sum, a
 //! product or a quotient is too large, even if the result in lowest terms would not be.

@@ -10,7 +10,7 @@ use crate::start::first_tableau;
 use std::alloc::{AllocError, Global};
 
 /// Maximises column 0 by Bland's rule (1977) in at most `pivots` pivots. The values found for the columns are at least 0 and
-/// meet each row. No other such values give column 0 a greater value. The duals show this (see `Solved`).
+/// satisfy each row. No other such values give column 0 a greater value. The duals show this (see `Solved`).
 ///
 /// # Errors
 /// `Memory` if memory ran out. If it did not:

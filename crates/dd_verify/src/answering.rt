@@ -19,7 +19,7 @@ use std::alloc::{AllocError, Global};
 ///
 /// # Errors
 /// `AllocError` if memory ran out.
-pub fn check_question(
+pub fn check_certificate(
     alloc: Global,
     question: &CheckedQuestion,
     answer: &Answer,
@@ -35,7 +35,7 @@ pub fn check_question(
         Question::Box { premise, goal } => check_box(alloc, premise, &goal, limits, answer),
         Question::Equality { left, right } => check_equal(alloc, left, right, limits, answer),
         Question::Listing { rule } => check_list(alloc, rule, answer),
-        Question::Smallest { rule } => check_minimal(alloc, rule, answer),
+        Question::Minimal { rule } => check_minimal(alloc, rule, answer),
         Question::Conjugacy { conjugacy } => check_conjugacy(alloc, &conjugacy, limits, answer),
         Question::Density {
             rule,

@@ -52,7 +52,7 @@ pub fn claims_hold(question: &CheckedQuestion)
         Question::Box { goal, .. } => goal_facts(&goal),
         Question::Equality { .. } => {}
         Question::Listing { .. } => listed_break(),
-        Question::Smallest { .. } => {
+        Question::Minimal { .. } => {
             starred_are_minimal();
             exact();
             needs_each();

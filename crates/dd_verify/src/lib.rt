@@ -50,6 +50,6 @@ mod refutations;
 mod tori;
 mod witnesses;
 
-pub use answering::check_question;
+pub use answering::check_certificate;
 pub use configurations::check_periodic;
 pub use laws::{claims_hold, claims_hold_for_goals};

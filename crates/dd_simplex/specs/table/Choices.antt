@@ -1,9 +1,9 @@
 -- How the code chooses the variable that enters and the line whose variable leaves. A line is the equation of a basic variable in terms of the
 -- nonbasic variables. Its cells are the coefficients of the sum that the equation subtracts from the bound. A place is an index in the list of the
 -- nonbasic variables. Of the first n places or lines, the code takes an eligible one that comes before all others that are eligible. A place is
--- eligible if its cost is greater than 0, and lower-numbered variables come first. A line is eligible if it limits the entering variable, which means
--- that its cell at the place of this variable is greater than 0. Lines with smaller ratios come first. Of lines with the same ratio, the one with the
--- lower-numbered basic variable comes first.
+-- eligible if its cost is greater than 0. Places of lower-numbered variables come first. A line is eligible if it limits the entering variable, which
+-- means that its cell at the place of this variable is greater than 0. Lines with smaller ratios come first. Of lines with the same ratio, the one
+-- with the lower-numbered basic variable comes first.
 use Rattle.std.specs.Prelude.{◌≡◌, ℕ, ◌<◌, ◌≤◌, List, length, Bool, true, false, ◌&&◌, ◌||◌, Option, Some, None}
 use Rattle.std.specs.{Bool.nat_lt, Ordering.is_lt, Ordering.is_eq}
 use Rattle.dd_fraction.specs.{Exact.Exact, Exact.times, Exact.inverse, Order.IsAtMost, Order.exact_cmp, Checked.does_product_fit}

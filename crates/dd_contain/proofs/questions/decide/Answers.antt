@@ -13,7 +13,7 @@ least_radius-requires e c = (c.args.premise.now, c.requires.goal)
 pub search-requires-clause-radius : goal.search-requires-clause-radius
 search-requires-clause-radius e c =
     let top : c.max-most.result ≡ max c.args.limits.now.radius c.in_ok-least.least = search rules in
-    let small = least_near c.args.premise.now (goal_of c.args.premise.now c.args.goal.now) c.in_ok-least.least c.symbols-symbols.ensures.kept c.requires.goal (c.keeps_rule.ensures c.args.premise.now) (c.in_ok-least.ensures c.args.premise.now c.symbols-symbols.ensures.kept c.requires.goal) in
+    let small = least_near c.args.premise.now (goal_of c.args.premise.now c.args.goal.now) c.in_ok-least.least c.symbols-symbols.ensures.kept c.requires.goal (c.has_valid_rule.ensures c.args.premise.now) (c.in_ok-least.ensures c.args.premise.now c.symbols-symbols.ensures.kept c.requires.goal) in
     omega (arith, top, small, c.requires.radius)
 
 pub search-requires-clause-some : goal.search-requires-clause-some

@@ -21,8 +21,8 @@ automaton-requires-clause-shallow c =
 pub configuration-requires-clause-some : goal.configuration-requires-clause-some
 configuration-requires-clause-some c = rw c.as_slice-in-Configuration.ensures (body c.args.context.now.text c.args.written.now _ c.in-Configuration.is c.requires.written).1.0
 
-pub ask-requires-clause-written : goal.ask-requires-clause-written
-ask-requires-clause-written c = (body c.args.context.now.text c.args.written.now _ c.in-Query.is c.requires.written).1.0
+pub query_of-requires-clause-written : goal.query_of-requires-clause-written
+query_of-requires-clause-written c = (body c.args.context.now.text c.args.written.now _ c.in-Query.is c.requires.written).1.0
 
 pub returns-in-Automaton : goal.returns-in-Automaton
 returns-in-Automaton c = rw (c.in-Automaton.is, ← c.as_slice-in-Automaton.ensures) (record { exact = c.automaton.ensures.0; sound = c.automaton.ensures.1 })

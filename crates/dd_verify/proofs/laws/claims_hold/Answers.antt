@@ -21,10 +21,10 @@ returns-in-Equality c a =
 pub returns-in-Listing : goal.returns-in-Listing
 returns-in-Listing c a = rw (← c.question.ensures.value, c.in-Listing.is) (list_claims c.listed_break.ensures _ a)
 
-pub returns-in-Smallest : goal.returns-in-Smallest
-returns-in-Smallest c a =
-    let sound = rw (← c.question.ensures.value, c.in-Smallest.is) at c.question.ensures.kept.sound in
-    rw (← c.question.ensures.value, c.in-Smallest.is)
+pub returns-in-Minimal : goal.returns-in-Minimal
+returns-in-Minimal c a =
+    let sound = rw (← c.question.ensures.value, c.in-Minimal.is) at c.question.ensures.kept.sound in
+    rw (← c.question.ensures.value, c.in-Minimal.is)
     (minimal_claims c.exact.ensures c.needs_each.ensures c.all_new.ensures _ sound.0 c.starred_are_minimal.ensures.nodes c.starred_are_minimal.ensures.minimal a)
 
 pub returns-in-Conjugacy : goal.returns-in-Conjugacy
