@@ -74,8 +74,8 @@ inner_wired n k w f g at cs is h =
     ∙ (list_all-alike test (λ c. list_all q (there c)) same reads
     ∙ (sym (list_all-flat_map q there reads) ∙ (sym (ap (λ (x : Counted). list_all q (x.reads at.node)) (counted_composed f g)) ∙ h))))
 
--- o is a list of signals that say what the automaton's value at c is. Once the gates of the values are there, a search for a cell finds such a list
--- (`found_in`).
+-- o is `Some` list of signals, and these say what the automaton's value at c is. Once the gates of the values are there, a search for a cell finds
+-- such a list (`found_in`).
 abbrev Found : Network → Wiring → ℕ → Automaton → Cell → Option (List Signal) → Type 0
 Found circuit w k g c o = (ss : List Signal) × (o ≡ Some ss) × IsValued circuit w k g c ss
 

@@ -35,7 +35,7 @@ signals_of w c = slice_get w.signals (position_or_len (λ d. is_eq (cell_cmp d c
 abbrev pub wire_of : Wiring → Cell → ℕ → Option Signal
 wire_of w c s = signal_for (signals_of w c) s
 
--- the wires of each cell of the wiring are the signals of the list at the cell's place, and no other cell has a wire
+-- the wires of each cell of the wiring are the signals of the list at the cell's index, and no other cell has a wire
 pub record IsWiredByPlace (w : Wiring) : Type 0 where
   pub at : (k : ℕ) (d : Cell) (s : ℕ) → k < length w.cells → wire_of w (slice_index_or w.cells k d) s ≡ signal_for (slice_get w.signals k) s
   pub elsewhere : (c : Cell) (s : ℕ) → (Contains w.cells c → ⊥) → wire_of w c s ≡ None

@@ -57,8 +57,8 @@ impl Inputs {
         Ok(())
     }
 
-    /// The signal that says that the cell has the symbol. `None` if the inputs don't have the cell, or if the symbol isn't less
-    /// than the number of the cell's signals.
+    /// The signal that says that the cell has the symbol. `None` if the inputs don't have the cell, or if the cell has no
+    /// signal for the symbol.
     #[tactic(auto, using(crate::specs::lemmas::WiringLaws::read_by_place))]
     pub fn get(&self, cell: &Cell, symbol: u32) -> Option<Signal>
         ensures value { result ≡ wire_of self.now cell.now symbol }

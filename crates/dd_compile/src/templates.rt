@@ -25,10 +25,10 @@ use dd_lattice::{Cell, Position, shift};
 use std::alloc::{AllocError, Global};
 use std::marker::Model;
 
-/// The gates of a rule at one of its nodes, to be placed at that node of one position after another. The template has a
+/// The gates of a rule at one of its nodes. They are placed at one cell after another, each with that node. The template has a
 /// circuit of its own for these gates. This circuit has an input for each symbol of each cell that the rule reads at that node
-/// of the origin. These cells are numbered from 0 in cell order: symbol `s` of cell `k` has the variable
-/// `1 + k * symbols + s`, where `symbols` is the size of the alphabet.
+/// of the origin. These cells are numbered from 0 in cell order: symbol `s` of cell `k` has the variable `1 + k * symbols + s`,
+/// where `symbols` is the size of the alphabet.
 #[derive(Debug, Drop)]
 pub struct Template<'a> {
     rule: &'a Rule,

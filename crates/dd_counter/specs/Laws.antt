@@ -1,5 +1,5 @@
 -- The laws of the least weight: what a refutation of the clauses says about the weights of all living configurations of given periods, that there is
--- at most one least weight, what the last clause is, and that no more clauses are added to those of the torus than `weight_count` counts for them.
+-- at most one least weight, what the last clause is, and that a bound on the weight adds no more clauses than `weight_count` counts for it.
 use Rattle.std.specs.Prelude.{◌≡◌, ◌<◌, ◌≤◌, ◌+◌, ◌-◌, ◌*◌, ◌∷◌, [], ℕ, suc, List, length, get_or}
 use Rattle.dd_derivation.specs.{declared.step.Step.Step, Derivations.IsRefuting}
 use Rattle.dd_circuit.specs.{declared.gates.Signal.Signal, Circuits.signal_of}

@@ -11,9 +11,9 @@ use Rattle.dd_counter.specs.Counter.{weighed}
 abbrev pub weight_problem : LocalRule → Periods → List ℕ → ℕ → ClauseList
 weight_problem x periods ws below = weighed (torus_problem x always periods) ws below (periods_volume periods * x.nodes)
 
--- An upper bound on the number of clauses of `weight_problem`. `question_clauses` bounds the clauses of the torus, and the last clause counts 1. For
--- each cell and each t less than `below`, the counter has at most one And gate for each symbol, with three clauses, and an Or gate, with at most one
--- clause for each symbol and one more.
+-- An upper bound on the number of clauses of `weight_problem`. `question_clauses` bounds the number of clauses of the torus, and the last clause
+-- counts as 1. For each cell and each t less than `below`, the counter has at most one And gate for each symbol, with three clauses, and an Or gate,
+-- with at most one clause for each symbol and one more.
 abbrev pub weight_count : LocalRule → Periods → List ℕ → ℕ → ℕ
 weight_count x periods ws below =
     question_clauses x always (periods_volume periods) + periods_volume periods * x.nodes * (below * suc (4 * length ws)) + 1

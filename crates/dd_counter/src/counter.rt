@@ -45,7 +45,7 @@ fn input_of(number: u32, symbols: u32, symbol: u32) -> Signal
 
 /// Appends to `members` the signal for one symbol of a cell. The signal says that the cell has this symbol, and that the cells
 /// up to and including this one weigh more than `most`. The symbol weighs `weight`. The signal `from` says that the cell has
-/// the symbol. The row of the cell before is `before`; it is empty for the first cell. If the symbol alone weighs more than
+/// the symbol. `before` is the row of the previous cell, or empty for the first cell. If the symbol alone weighs more than
 /// `most`, `from` itself is appended. Otherwise, if `before` has a signal at `most - weight`, an And gate over `from` and this
 /// signal is added, and the gate's signal is appended. If `before` has no such signal, nothing is appended.
 fn push_member(

@@ -1,4 +1,4 @@
-//! Living configurations, made from symbols for the fundamental box: from given ones, or from one symbol for all its cells.
+//! Living configurations, made from given symbols for the cells of the fundamental box, or from one symbol for all of them.
 ghost use Rattle.std.specs.Prelude.{MatchOption, ⊤, IfOk, IfSome};
 ghost use Rattle.dd_pattern.specs.Periods.{periods_of};
 ghost use Rattle.dd_boxes.specs.TorusPeriods.{AreTorusPeriods};

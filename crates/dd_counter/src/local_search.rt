@@ -290,8 +290,8 @@ impl<'a> LocalSearch<'a> {
         growth
     }
 
-    /// Pays for a test of the rule at each cell that reads this one, including the tests that `growth_at_readers` leaves out.
-    /// So the search takes the same steps as if all tests were made.
+    /// Pays for a test of the rule at each cell where the rule reads this one, including the tests that `growth_at_readers`
+    /// leaves out. So the search takes the same steps as if all tests were made.
     fn pay_for(&mut self, cell: usize) {
         let torus = self.torus;
         for reader in torus.readers(cell) {
@@ -300,8 +300,8 @@ impl<'a> LocalSearch<'a> {
     }
 
     /// The growth of the change that was just made at this cell, or `None` if it is greater than `most`. The growth is first
-    /// computed as if the rule were now true at each cell that reads this one. Then these cells are tested, and the penalty of
-    /// each one where the rule is false is added. Once the growth is greater than `most`, no more cells are tested.
+    /// computed as if the rule were now true at each cell where it reads this one. Then these cells are tested, and the penalty
+    /// of each one where the rule is false is added. Once the growth is greater than `most`, no more cells are tested.
     fn growth_at_readers(&mut self, cell: usize, most: i64) -> Option<i64> {
         let torus = self.torus;
         let mut growth = 0i64;

@@ -10,7 +10,7 @@ use dd_numbered::{Numbered, Numbers};
 use dd_pattern::{Periodic, Reads};
 use std::alloc::{AllocError, Global};
 
-/// A numbering of the cells that are given relative to the position `at`. The number of a cell is the symbol that the
+/// A numbering of cells, each of which is given relative to the position `at`. The number of a cell is the symbol that the
 /// configuration `numbers` has there (see `numbered_box`). A cell has no number if a coordinate of its position, moved by `at`,
 /// exceeds 2^20 in absolute value.
 #[derive(Drop)]

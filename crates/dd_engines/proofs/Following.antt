@@ -32,7 +32,7 @@ forced_is_free p c l h = go (filter (λ x. not (p x)) c) refl h
         let passes = All-head (λ x. not (p x) ≡ true) y rest (All-same (λ x. not (p x) ≡ true) (y ∷ rest) _ e (filter_passes (λ x. not (p x)) c)) in
         subst (λ (z : Literal). IsFree p z) f.1 (record { free = not-true _ passes; other = not-true _ q.1 })
 
--- a forced literal is one of the clause's own, so it has each property that all of these have
+-- a forced literal is a literal of the clause, so it has any property that all literals of the clause have
 pub forced_has : (P : Literal → Type 0) (p : Literal → Bool) (c : List Literal) (l : Literal) → All P c → finding p c ≡ Forced l → P l
 forced_has P p c l all h = go (filter (λ x. not (p x)) c) refl h
   where
@@ -162,7 +162,7 @@ follows_from_nothing cs n = record {
 }
 
 -- Let each literal that is false by f be false by g. Take the literals that are false by f out of a clause, and then those that are false by g. The
--- literals that are left are the same as if only those that are false by g are taken out.
+-- literals that are left are the same as if only those that are false by g were taken out.
 filter_again : (f g : Literal → Bool) → ((l : Literal) → f l ≡ true → g l ≡ true) → (c : List Literal) → filter (λ x. not (g x)) (filter (λ x. not (f x)) c) ≡ filter (λ x. not (g x)) c
 filter_again f g below [] = refl
 filter_again f g below (x ∷ xs) = elim (cases_Bool (f x)) [
@@ -185,7 +185,7 @@ same_left g y (x ∷ rest) all =
       | inr n ↦ rw n (and_from (same_literal y x) _ p.0 (same_left g y rest p.1))
     ]
 
--- f and g say which literals are false: by f, the list xs forces a literal, and by g, this literal is true
+-- let f and g say which literals are false. By f, the list xs forces a literal. By g, this literal is true.
 record MadeTrue (f g : Literal → Bool) (xs : List Literal) : Type 0 where
   literal : Literal
   forced : finding_of f xs ≡ Forced literal

@@ -59,7 +59,7 @@ fn walk_back(
 
 /// Returns the hints of a step that refutes the clauses, in the order of the trail. The last hint is the number of the
 /// conflict. Each other hint is the number of a clause that forces a value, and a later hint's clause needs this value.
-/// `conflict` is the conflict's number, counted from 0, but hints are counted from 1.
+/// `conflict` is the conflict's number, counted from 0, but the numbers in the hints are counted from 1.
 pub fn needed_hints(
     alloc: Global,
     clauses: &[Clause],

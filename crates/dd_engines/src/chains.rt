@@ -62,7 +62,7 @@ impl Chains {
         Ok(())
     }
 
-    /// Adds a clause with this number to the chains of its literals, in front of the clauses that are there.
+    /// Adds a clause with this number to the chains of its literals, in front of the clauses that are already there.
     fn add(&mut self, number: usize, clause: &Clause) -> Result<(), AllocError>
         requires places { All (HasChain self.old) clause.now }
         requires linked { IsLinked self.old }
@@ -76,7 +76,7 @@ impl Chains {
         Ok(())
     }
 
-    /// Adds the clause with this number to the chain of one literal, in front of the clauses that are there.
+    /// Adds the clause with this number to the chain of one literal, in front of the clauses that are already there.
     fn add_one(&mut self, number: usize, literal: Literal) -> Result<(), AllocError>
         requires place { HasChain self.old literal }
         requires linked { IsLinked self.old }

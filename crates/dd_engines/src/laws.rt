@@ -17,8 +17,8 @@ pub fn kept_is_reflexive()
     ensures { (all : List Seen) → Kept all all }
 {}
 
-/// Does nothing; its contract is the law that a roster that is kept from a first time to a second, and from the second to a
-/// third, is kept from the first to the third.
+/// Does nothing; its contract is the law that a roster that is kept from time A to time B, and from B to C, is kept from A to
+/// C.
 pub fn kept_is_transitive()
     ensures { (before between after : List Seen) → Kept before between → Kept between after → Kept before after }
 {}
@@ -29,8 +29,8 @@ pub fn first_asked_keeps()
 {}
 
 /// Does nothing; its contract is the law that if `FirstAsked` holds, a sound first engine is not skipped: it is still the
-/// first, and it was asked in the meantime. The contract also gives an example in which `FirstAsked` is false: the two engines
-/// of `one_was_asked`, if neither was asked in the meantime.
+/// first, and it was asked in the meantime. The contract also gives an example in which `FirstAsked` is false: two sound
+/// engines, one of them asked earlier, and neither asked in the meantime (see `one_was_asked`).
 pub fn first_is_not_skipped()
     ensures head { (old : Seen) (before after : List Seen) → old.sound ≡ true → FirstAsked (old ∷ before) after → IsHeadAsked old after }
     ensures pair { FirstAsked one_was_asked one_was_asked → ⊥ }

@@ -3,10 +3,10 @@
 //! as sound. If it does, all its proposals are right. A roster asks the engines in turn and checks what they propose.
 //!
 //! There are two engines here. `Propagator` uses only unit propagation. `Walker` tries the assignments of a walk. The walk
-//! starts with all variables false, and goes on by flips. Each flip takes the first clause without a true literal, picks one
-//! of the clause's literals, and makes this literal true by changing the value of one variable. Both engines use chains: the
-//! chain of a literal lists the clauses that contain the literal. A literal is in range if its variable is one of the clause
-//! list's variables 1 to n.
+//! starts with all variables false, and then makes flips. Each flip takes the first clause without a true literal, picks one of
+//! the clause's literals, and makes this literal true by changing the value of one variable. Both engines use chains: the chain
+//! of a literal lists the clauses that contain the literal. A literal is in range if its variable is one of the clause list's
+//! variables 1 to n.
 #![tactic(auto, using(std::proofs::lemmas::Grind::common_steps))]
 
 mod analysis;

@@ -106,7 +106,7 @@ struct Counts<'a> {
 }
 
 impl<'a> Counts<'a> {
-    /// No counts. `chains` must be empty. So no clause ever waits, and a pass only looks at each clause once.
+    /// No counts. `chains` must be empty. So no clause ever waits, and a pass looks at each clause only once.
     fn none(alloc: Global, chains: &'a Chains) -> Counts<'a> {
         Counts {
             chains,
@@ -115,7 +115,7 @@ impl<'a> Counts<'a> {
         }
     }
 
-    /// The counts while no literal is false.
+    /// The counts when no literal is false.
     fn new(alloc: Global, cnf: &Cnf, chains: &'a Chains) -> Result<Counts<'a>, AllocError> {
         let mut left = vec![in alloc; 0usize; cnf.clauses().len()]?;
         for link in chains.links.as_slice() {

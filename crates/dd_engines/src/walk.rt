@@ -1,7 +1,7 @@
 //! A walk through assignments, starting with all variables false. Each flip takes the first clause without a true literal, and
 //! makes one of its literals true. Each clause has a count of its true literals, and each literal has a chain of the clauses
-//! that contain it. So a flip that makes a literal true visits only the clauses that contain this literal or its negation. If
-//! the walk is found to be in a cycle, it ends, as no new assignment would follow.
+//! that contain it. So a flip that makes a literal true visits only the clauses that contain this literal or its negation. The
+//! search stops if the walk is found to be in a cycle, as no new assignment would follow.
 ghost use Rattle.std.specs.Prelude.{◌≡◌, ◌+◌, false, length, replicate, IfOk, MatchOption};
 ghost use Rattle.dd_clause.specs.Clauses.{IsLiteralInRange, is_true_under};
 ghost use Rattle.dd_values.specs.Variables.{true_variables};

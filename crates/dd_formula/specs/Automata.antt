@@ -38,7 +38,7 @@ pub record Counted : Type 0 where
   pub reads : ℕ → List Cell
   -- the number of its instances at a node: `counted_step` below says what they are
   pub instances : ℕ → ℕ
-  -- how deep compositions are nested
+  -- how deeply compositions are nested
   pub depth : ℕ
 
 -- the cells that the rules of the cases read at a node

@@ -49,6 +49,6 @@ region_clauses r goal positions = positions * place_clauses r + goal
 abbrev pub largest_region : ℕ → ℕ → ℕ → ℕ
 largest_region d radius period = max ((2 * radius + 1) ^ d) (period ^ d)
 
--- the upper bound of `region_clauses` for the box of this radius or the torus with this period along each axis, whichever has more positions
+-- the upper bound that `region_clauses` gives for the box of this radius or the torus with this period along each axis, whichever has more positions
 abbrev pub largest_clauses : LocalRule → ℕ → ℕ → ℕ → ℕ
 largest_clauses r goal radius period = region_clauses r goal (largest_region r.dimension radius period)

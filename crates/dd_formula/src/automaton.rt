@@ -231,8 +231,8 @@ impl Automaton {
         }
     }
 
-    /// How deep compositions are nested: 0 for an automaton that is given by cases. A composition is one deeper than the deeper
-    /// of its two parts.
+    /// How deeply compositions are nested: 0 for an automaton that is given by cases. A composition is one deeper than the
+    /// deeper of its two parts.
     #[tactic(auto, using(crate::specs::lemmas::AutomatonLaws::layers))]
     pub fn depth(&self) -> u32
         requires { (s : CommonNumbers) × IsAutomaton s self.now }

@@ -1,5 +1,5 @@
 //! Compositions of two automata, and tests of their limits: on the number of instances (see `Automaton::instances`), on the
-//! reach (how far away a composition reads cells), and on the depth (how deep compositions are nested).
+//! reach (how far away a composition reads cells), and on the depth (how deeply compositions are nested).
 ghost use Rattle.std.specs.Prelude.{◌≡◌, true, IfOk, IfErr, OnOk};
 ghost use Rattle.dd_formula.specs.Automata.{IsAutomaton, is_few, is_short, is_shallow};
 ghost use Rattle.dd_formula.specs.Compositions.{AreAutomata, HaveNodes, OverBoth, StandFor, PassesDepth, IsCompositionFault, composition};
@@ -10,7 +10,7 @@ use crate::making::{MOST_INSTANCES, are_near};
 use dd_values::Boxed;
 use std::alloc::{AllocError, Global};
 
-/// How deep compositions may be nested.
+/// How deeply compositions may be nested.
 const MOST_DEPTH: u32 = 64;
 
 impl Automaton {

@@ -10,9 +10,9 @@
 //! composition reads what the inner automaton reads at each cell that the outer one reads.
 //!
 //! The subshift of a rule is the set of the configurations for which the rule is true at every cell. The crate tests whether a
-//! periodic configuration lives in it, that is, belongs to it. A periodic configuration is determined by the symbols in one
-//! box, its fundamental box. A node may allow only some symbols. A separate test says whether each cell of a periodic
-//! configuration has a symbol that the cell's node allows.
+//! periodic configuration lives in a rule's subshift, that is, belongs to it. A periodic configuration is determined by the
+//! symbols in one box, its fundamental box. A node may allow only some symbols. A separate test says whether each cell of a
+//! periodic configuration has a symbol that the cell's node allows.
 //!
 //! The calls that make rules and automata enforce three limits: at most 20,000 instances at each node, a reach of at most 16
 //! and, for automata, a depth of at most 64. The expansion of a rule at a node is the rule's formula at a cell with this node,

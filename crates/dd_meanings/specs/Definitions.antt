@@ -1,5 +1,5 @@
--- What definitions mean, and the limits that rules and automata exceed. x is the context of the command that makes the definition. It has the text of
--- the script and what is known: what the commands before this one defined, with defaults for the rest.
+-- What definitions mean, and which limits a rule or an automaton exceeds. x is the context of the command that makes the definition. It has the text
+-- of the script and what is known: what the commands before this one defined, with defaults for the rest.
 use Rattle.std.specs.Prelude.{ℕ, List, [], ◌∷◌, ◌++◌, map, not, Option, unwrap_or}
 use Rattle.std.specs.List.{slice_get}
 use Rattle.dd_pattern.specs.{Periods.periods_of as with_shear, Tile.Tile, Tile.tile}
@@ -50,7 +50,7 @@ tile_of x periods shear symbols =
 
 -- ---- counts
 
--- the counts of a rule; its depth, which says how deep compositions are nested, is 0
+-- the counts of a rule; its depth, which says how deeply compositions are nested, is 0
 abbrev pub rule_counts : LocalRule → Counted
 rule_counts r = record { reads = reads_at r; instances = λ a. instances (expansion_at r a); depth = 0 }
 

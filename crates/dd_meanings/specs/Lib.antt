@@ -7,7 +7,7 @@ pub mod Meanings
 pub mod Made
 -- what always holds of a meaning
 pub mod Sound
--- what definitions mean, and the limits that rules and automata exceed
+-- what definitions mean, and which limits a rule or an automaton exceeds
 pub mod Definitions
 -- formulas, with numbers in place of names
 pub mod Formulas

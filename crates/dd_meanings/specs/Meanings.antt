@@ -1,5 +1,5 @@
--- What each command means, and the limits that its rule or automaton exceeds: on the number of its instances, on how far away it reads cells, or on
--- its depth.
+-- What each command means, and which limits its rule or automaton exceeds. There are three limits: on the number of instances, on how far away cells
+-- are read, and on depth.
 use Rattle.std.specs.Prelude.{List, [], length, map, true, false, if◌then◌else◌}
 use Rattle.dd_meanings.specs.Tree.{Kind, Command, Fault, Context}
 use Rattle.dd_topology.specs.Builtin.{grid_of}

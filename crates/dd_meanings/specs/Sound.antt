@@ -18,7 +18,7 @@ pub record AreNames (most : ℕ) (names : List (List ℕ)) : Type 0 where
   pub few : length names ≤ most
   pub distinct : AreDistinct names
 
--- the number of a node, and the numbers of at least one symbol
+-- the number of a node, and the numbers of one or more symbols
 pub record IsSymbolRestriction (s : Setting) (node : ℕ) (symbols : List ℕ) : Type 0 where
   pub exists : node < length s.nodes
   pub some : 1 ≤ length symbols

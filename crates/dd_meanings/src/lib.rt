@@ -5,7 +5,7 @@
 //!
 //! The commands of a script's header come first. They give a topology, the names of nodes and symbols, the symbols that a node
 //! allows, the weights of symbols, and the limits on the work for one answer. The commands after the header define rules,
-//! automata and configurations, and ask queries. A rule or an automaton is refused here if it has too many instances (roughly,
+//! automata and configurations, and pose queries. A rule or an automaton is refused here if it has too many instances (roughly,
 //! the parts of its formulas once these are written without variables), reads a cell that is too far away, or is too deep
 //! (nests too many compositions).
 //!

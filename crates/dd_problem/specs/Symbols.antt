@@ -14,7 +14,7 @@ pub record AreSymbols (x : LocalRule) (cells : List Cell) (symbols : List ℕ) :
   pub below : All (λ s. s < x.symbols) symbols
   pub allowed : (k : ℕ) (c : Cell) → slice_get cells k ≡ Some c → rule_allows x c.node (slice_index symbols k) ≡ true
 
--- for each cell, the input of its symbol is true, and the others of its m inputs are false
+-- for each cell, the input of its symbol is true, and the rest of its m inputs are false
 abbrev pub AreRead : (ℕ → Bool) → ℕ → List ℕ → Type 0
 AreRead set m symbols = (k s : ℕ) → k < length symbols → s < m → set (input m k s) ≡ is_symbol s (slice_get symbols k)
 
@@ -22,7 +22,7 @@ AreRead set m symbols = (k s : ℕ) → k < length symbols → s < m → set (in
 abbrev pub layout_look : Layout → List ℕ → Look
 layout_look l symbols c = cond (l.has c) (slice_get symbols (l.index c)) None
 
--- for the cell with the number k, the input of the symbol s is true, and the others of its m inputs are false
+-- for the cell with the number k, the input of the symbol s is true, and the rest of its m inputs are false
 abbrev pub IsSymbolRead : (ℕ → Bool) → ℕ → ℕ → ℕ → Type 0
 IsSymbolRead set m k s = (s < m) × ((t : ℕ) → t < m → set (input m k t) ≡ (s == t))
 

@@ -27,7 +27,8 @@ use dd_lattice::{Cell, Position};
 use std::alloc::{AllocError, Global};
 use std::marker::Model;
 
-/// A circuit, and clauses over its signals. The clause list has as many variables as the circuit, even after memory ran out.
+/// A circuit, and clauses over its signals. The clause list has as many variables as the circuit, even after memory has run
+/// out.
 #[derive(Drop)]
 pub(crate) struct Encoder {
     alloc: Global,
@@ -71,7 +72,7 @@ fn push_made(
 }
 
 impl Encoder {
-    /// An encoder with these clauses. All their variables are inputs, and there is no gate yet.
+    /// An encoder with these clauses. All their variables are inputs, and there are no gates yet.
     pub(crate) fn new(alloc: Global, cnf: Cnf) -> Encoder
         ensures { result ≡ over_inputs cnf }
     {

@@ -7,8 +7,8 @@
 //! given rule is broken (false at some node of the position), two given automata have different values at some node of the
 //! position, or the goal always holds. The value of an automaton at a cell is the symbol that the automaton gives the cell. A
 //! goal's rule or automata have the premise's dimension, nodes and alphabet. A rule or an automaton reads the cells whose
-//! symbols it looks up, and a goal reads what its rule or its automata read. The question asks whether no configuration that
-//! obeys the premise has the goal at any position.
+//! symbols it looks up, and a goal reads what its rule or its automata read. The question asks whether the goal fails at every
+//! position of every configuration that obeys the premise.
 //!
 //! The box of radius n, B(n), has the cells of Z^d whose positions have coordinates from -n to n. The least radius of a goal is
 //! the least n for which B(n) has each cell that the goal reads at the origin. The clauses of a box are satisfiable exactly

@@ -27,7 +27,7 @@ use Rattle.dd_values.specs.lemmas.Lists.{flat_map_agree, map_alike, all_first, a
 one_here : (k : ℕ) → one_at k k ≡ pos 1
 one_here k = ap (λ b. pos (cond b 1 0)) (eq-eqb k k refl)
 
--- for each k below p: `one_at k a` less `one_at k b` is equal to `one_at k c` less `one_at k d`
+-- for each k below p: `one_at k a` minus `one_at k b` is equal to `one_at k c` minus `one_at k d`
 record Agree (p a b c d : ℕ) : Type 0 where
   at : (k : ℕ) → k < p → (one_at k a -ℤ one_at k b) ≡ (one_at k c -ℤ one_at k d)
 

@@ -1,5 +1,5 @@
 //! Formulas over the symbols of a list of cells. Each formula says that the rule is true at a given place. A place is one of
-//! the cells. A cell's number is its index in the list. (For other cells, see `Near`.)
+//! the cells. A cell's number is its index in the list. (For cells that aren't in the list, see `Near`.)
 ghost use Rattle.std.specs.Prelude.{◌≡◌, ◌<◌, IfOk};
 ghost use Rattle.std.specs.List.Sorted.{IsStrictlySortedBy, IsStrictlySortedBy-prop};
 ghost use Rattle.dd_lattice.specs.Order.{cell_cmp};

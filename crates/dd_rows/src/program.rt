@@ -202,7 +202,7 @@ fn program_listed(
 }
 
 /// Makes the same program as `program_listed`, but faster. It first leaves out each filling in which the views show the same
-/// symbols as in the filling before.
+/// symbols as in the preceding filling.
 fn program_shown(
     alloc: Global,
     fillings: &[Items<u32>],
@@ -228,7 +228,7 @@ fn program_shown(
 ///
 /// # Errors
 /// - `Large` if some prefix of the ground's list of cells has more than 65,536 admissible fillings, or if the program would
-///   have more than 256 columns or more than 2,048 rows. Then there is no program.
+///   have more than 256 columns or more than 2,048 rows. Then no program is made.
 /// - `Memory` if memory ran out.
 pub fn program_of(
     alloc: Global,

@@ -1,4 +1,4 @@
-//! Leaves out each filling in which the views show the same symbols as in the filling before. In lexicographic order, many
+//! Leaves out each filling in which the views show the same symbols as in the preceding filling. In lexicographic order, many
 //! consecutive fillings differ only at cells that are in no view.
 ghost use Rattle.std.specs.Prelude.{◌≡◌, ℕ, map, unwrap_or, slice_get, IfOk, IsTrue};
 ghost use Rattle.dd_rows.specs.listing.Views.{symbols_at};
@@ -8,7 +8,7 @@ use crate::views::Views;
 use dd_values::Items;
 use std::alloc::{AllocError, Global};
 
-/// The symbol of the cell with this number, or 0 if `symbols` has no such index.
+/// The symbol of the cell with this number, or 0 if the number is past the end of `symbols`.
 fn symbol_at(symbols: &[u32], number: usize) -> u32
     ensures { result ≡ unwrap_or (slice_get symbols.now number) 0 }
 {
@@ -69,8 +69,8 @@ fn ends_alike(shown: &[Items<u32>], symbols: &[u32], views: &Views) -> bool
     }
 }
 
-/// The fillings, except those in which the views show the same symbols as in the filling before. The fillings that remain show
-/// the same patterns as all the fillings, and require the same rows.
+/// The fillings, except those in which the views show the same symbols as in the preceding filling. The fillings that remain
+/// show the same patterns as all the fillings, and require the same rows.
 pub(crate) fn without_repeats(
     alloc: Global,
     fillings: &[Items<u32>],

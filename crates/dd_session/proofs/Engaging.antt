@@ -88,7 +88,7 @@ taken_before a b c bytes s text (Err e) is before whole short = header_then a b 
 
 pub begun : (P : Type 0) (old new : Option (List ℕ)) (bytes : List ℕ) (s : Parts) → Spells bytes s → P ⊎ HeaderWritten old new bytes → P ⊎ Begun old new bytes
 begun P old new bytes s spelled (inl p) = inl p
-begun P old new bytes s spelled (inr taken) = inr record { script = s; spelled = spelled; taken = taken }
+begun P old new bytes s spelled (inr taken) = inr record { script = s; spelled = spelled; written = taken }
 
 pub has_begun : (P : Type 0) (left_old left_new held_old held_new : Option (List ℕ)) (given bytes : List ℕ) → ReadToEnd left_old left_new given
     → length given ≤ most_script → bytes ≡ given → P ⊎ Begun held_old held_new bytes → P ⊎ HasBegun left_old left_new held_old held_new

@@ -15,8 +15,8 @@ pub record Engines (E : Type 0) : Type 0 where
   -- the roster before and after
   pub old : Roster E
   pub new : Roster E
-  -- what contracts see of each engine, before and after: its two counts (how often it was asked, and how often it proposed something), and whether it
-  -- is sound
+  -- what contracts see of each engine, before and after: how often it was asked, a count that rises with each proposal, and whether the engine counts
+  -- as sound
   pub before : List Seen
   pub after : List Seen
 
@@ -39,7 +39,7 @@ pub record HeaderWritten (old new : Option (List ℕ)) (bytes : List ℕ) : Type
 pub record Begun (old new : Option (List ℕ)) (bytes : List ℕ) : Type 0 where
   pub script : Parts
   pub spelled : Spells bytes script
-  pub taken : HeaderWritten old new bytes
+  pub written : HeaderWritten old new bytes
 
 -- The source was read to its end, it gave a script, and the whole header was written.
 pub record HasBegun (left_old left_new held_old held_new : Option (List ℕ)) : Type 0 where

@@ -1,4 +1,4 @@
--- What a session does for the words after the program's name. This is what the contract of `run_diddy` promises.
+-- What a session does, given the words after the program's name. This is what the contract of `run_diddy` promises.
 use Rattle.std.specs.Prelude.{◌≡◌, ◌↔◌, ◌≤◌, ◌+◌, ℕ, List, Some, codes}
 use Rattle.dd_values.specs.Bounds.{most_script}
 use Rattle.dd_outside.specs.Bytes.{GivesAtMost}

@@ -36,7 +36,7 @@ abbrev pub HasFailed : {X : Type 0} → Change X → Type 0
 HasFailed side = Rose side.faults_old side.faults_new
 
 -- With the status `Refused`, the line for a refused input was written. With `WriteFault`, a prefix of this line was written, and `HasFailed` holds
--- for the sink. There is no other status.
+-- for the sink. No other status is possible.
 abbrev pub RefusedBy : {K : Type 0} → Change K → List ℕ → Status → Type 0
 RefusedBy sink line Refused = Appends sink.bytes_old sink.bytes_new line
 RefusedBy sink line WriteFault = GainsFront sink.bytes_old sink.bytes_new line × HasFailed sink

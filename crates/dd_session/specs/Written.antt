@@ -18,7 +18,7 @@ pub record Answered (written : ℕ → Answer → List ℕ) (old new : Option (L
   pub unknown_is : has_unknown answers ≡ has
   pub appends : Appends old new (texts written first answers)
 
--- A prefix of a text was written. The text has right answers to the first of these queries, in order, and perhaps to all of them.
+-- A prefix of a text was written. For some k, the text has right answers to the first k of these queries, in order.
 pub record AnsweredFront (written : ℕ → Answer → List ℕ) (old new : Option (List ℕ)) (s : Parts) (queries : List Query) (first : ℕ) : Type 0 where
   pub answers : List Answer
   pub right : AllRight s queries answers

@@ -1,4 +1,4 @@
-//! The check of an output's answers. It writes a line for each query, which says whether the answer is accepted. Each line is
+//! The check of an output's answers. For each query it writes a line that says whether the answer is accepted. Each line is
 //! written as soon as it is known. A query without an answer is rejected, and so is an answer without a query. The first
 //! rejection ends the check.
 ghost use Rattle.std.specs.Prelude.{◌≡◌, ◌≤◌, length, IfOk, OnErr, string_bytes};

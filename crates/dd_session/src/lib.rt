@@ -1,6 +1,6 @@
 //! Whole sessions. A session does one of three things: it runs a script and writes its output, it checks such an output, or it
 //! runs a sample, which is a script that the program makes itself. If the words of the command line ask for none of these, it
-//! does nothing. A script asks queries about rules, configurations and automata. Its output has an answer to each query. Bytes
+//! does nothing. A script poses queries about rules, configurations and automata. Its output has an answer to each query. Bytes
 //! spell a script if they follow the grammar, have no fault, and mean that script. Bytes are read from a source and written to
 //! a sink.
 //!
@@ -13,7 +13,7 @@
 //! as that another rule is broken there. It asks whether no configuration that obeys the premise has the goal at any position.
 //! For such a query a run asks the engines of a roster, which is a list of engines, before it searches. An engine is any value
 //! that may propose a result of the search. Each proposal is checked, and an engine whose proposal is wrong is dropped from the
-//! roster. An engine is sound if all that it proposes is right.
+//! roster. An engine may count as sound. If it does, all that it proposes is right.
 #![tactic(auto)]
 
 mod checking;

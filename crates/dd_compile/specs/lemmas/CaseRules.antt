@@ -53,8 +53,8 @@ signals_more n m k more (Some ss) h =
     let both = and_parts (length ss == k) (list_all (is_signal n) ss) h in
     and_from (length ss == k) (list_all (is_signal m) ss) both.0 (list_all-weaker (is_signal n) (is_signal m) (signal_more n m more) ss both.1)
 
--- If the cells that the rules of the cases read have their signals among the variables 1..n, the cells that the rule of case i reads have them among
--- 1..m, for each m that is at least n.
+-- If the cells that the rules of the cases read have their signals with variables among 1..n, the cells that the rule of case i reads have them with
+-- variables among 1..m, for each m that is at least n.
 pub case_wired : (n m : ℕ) (w : Wiring) (c : Cases) (at : Cell) (h : AreCasesWired n w c at) (i : ℕ) (case : LocalRule × ℕ) → n ≤ m → i < length c.cases → case ≡ get_or c.cases i case → are_reads_wired m w case.0 at ≡ true
 case_wired n m w c at h i case more below is =
     let s = h.setting in

@@ -62,7 +62,7 @@ in_range_all v inner test (d ∷ ds) near =
     let there = near_in_range v d inner both.0 in
     rw there (ap (λ b. test d && b) (in_range_all v inner test ds both.1))
 
--- the same for the cells that a rule reads: cs lists each of them once, and `reads_at` may list some more often
+-- the same for the cells that a rule reads: cs lists each of them once, and `reads_at` may list some of them more than once
 pub tested_reads : (r : LocalRule) → IsRule r → (c : Cell) → c.node < r.nodes → extent c.position ≤ most_coordinate - most_reach → (test : Cell → Bool) (cs : List Cell) → cs ≡ cells_at r c.node →
     list_all (λ d. if is_in_range (moved d.position c.position) then test d else false) cs ≡ list_all test (reads_at r c.node)
 tested_reads r rule c exists inner test cs is =

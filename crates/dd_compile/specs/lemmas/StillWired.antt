@@ -1,4 +1,4 @@
--- If cells have their signals among the variables 1..n, they also have them among 1..m, for each m that is at least n.
+-- If cells have their signals with variables among 1..n, they also have them with variables among 1..m, for each m that is at least n.
 use Rattle.std.proofs.Common.{◌≡◌, ℕ, ◌≤◌, true, List, [], ◌∷◌, refl}
 use Rattle.std.proofs.lemmas.Bool.{and_parts, and_from}
 use Rattle.dd_lattice.specs.{Cells.shifted, declared.position.Cell.Cell}

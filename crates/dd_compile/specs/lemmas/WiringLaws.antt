@@ -1,4 +1,4 @@
--- The wires of a cell are found by the cell's place in the list of cells.
+-- The wires of a cell are found by the cell's index in the list of cells.
 use Rattle.std.proofs.Common.{◌≡◌, ◌<◌, ℕ, List, [], ◌∷◌, ◌++◌, length, get_or, slice_get, Some, None, Ok, Err, Option, ap, sym, refl, ◌∙◌, arith, map, option_map, length-append}
 use Rattle.std.proofs.lemmas.Option.{slice_get_past, slice_get_read, slice_get-map}
 use Rattle.std.proofs.lemmas.List.{get_or_default, length-map, Elements.All-contains}
@@ -33,7 +33,7 @@ missing_reads_none_too w ok c s absent =
     let none = missing_reads_none (filled w.cells zeros) (record { ascending = ok.ascending; as_many = as_many }) c absent in
     ap (λ o. signal_for o s) (none_from_map (slice_get w.signals (place_of w.cells c)) (sym (slice_get-map zero_for w.signals (place_of w.cells c)) ∙ none))
 
--- each cell has the signals at its place
+-- each cell has the signals at its index
 pub signals_at_place : (w : Wiring) → IsWiring w → (k : ℕ) (d : Cell) → k < length w.cells → signals_of w (get_or w.cells k d) ≡ slice_get w.signals k
 signals_at_place w ok k d h =
     let c = get_or w.cells k d in
@@ -42,7 +42,7 @@ signals_at_place w ok k d h =
 pub read_by_place : (w : Wiring) → IsWiring w → IsWiredByPlace w
 read_by_place w ok = record { at = reads_at_place w ok; elsewhere = missing_reads_none_too w ok }
 
--- if a search for a cell finds a place, the list at this place is that of the cell's signals
+-- if a search for a cell finds an index, the list at this index is that of the cell's signals
 pub found_list : (w : Wiring) (cs : List Cell) (c : Cell) (i : ℕ) (ss : List Signal) → IsWiring w → cs ≡ w.cells → IsSearchInRange (Ok i) (length cs) →
     IsBinarySearchResult (λ y. cell_cmp y c) cs (Ok i) → ss ≡ get_or w.signals i ss → signals_of w c ≡ Some ss
 found_list w cs c i ss ok same within h here =

@@ -24,7 +24,7 @@ signals_there w v cs = flat_map (λ d. all_of (signals_of w (shifted v d))) cs
 abbrev pub signed : Bool → Signal → Signal
 signed positive s = if positive then s else opposite s
 
--- the input, or the signal of the variable if there is no input; the opposite of this signal if the truth value `positive` is false
+-- the input, or the signal of the variable if there is no input; in both cases, its opposite if the truth value `positive` is false
 abbrev pub placed_by : Option Signal → ℕ → Bool → Signal
 placed_by None variable positive = record { variable = variable; positive = positive }
 placed_by (Some input) variable positive = signed positive input

@@ -1,5 +1,4 @@
--- Upper bounds on the number of gates of the counter, and on the weight of a configuration. A smaller bound on the weight doesn't make `weight_count`
--- greater.
+-- Upper bounds on the number of gates of the counter, and on the weight of a configuration. A smaller `below` doesn't make `weight_count` greater.
 use Rattle.std.proofs.Common.{ℕ, zero, suc, ◌+◌, ◌*◌, ◌≤◌, Bool, true, false, List, [], ◌∷◌, map, length, arith, Some, None, length-append}
 use Rattle.std.proofs.lemmas.{Nat.mul-le, List.Sums.sum_by-cons}
 use Rattle.std.specs.{Prelude.◌-◌, Prelude.nat_lt, Prelude.Option, Prelude.slice_get, Prelude.slice_index, List.range_with_len}

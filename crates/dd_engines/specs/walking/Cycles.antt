@@ -15,9 +15,9 @@ differences (x ∷ xs) (y ∷ ys) = (if beq x y then 0 else 1) + differences xs 
 abbrev pub IsPeriod : ClauseList → ℕ → ℕ → ℕ → Type 0
 IsPeriod cnf from to period = (0 < period) × ((i : ℕ) (values : List Bool) (clause : List Literal) → from ≤ i → i < to → values_after cnf i ≡ Some values → first_unsatisfied values cnf.clauses ≡ Some clause → 0 < length clause → period % length clause ≡ 0)
 
--- How `next` comes from `period`, a period of the flips before flip number k. Flip k takes a clause of this length. `next` is positive. It is a
--- multiple of the length, if the length is positive. It is a multiple of `period` too, unless flip k is the first since the landmark. This first flip
--- has the number `from`.
+-- How `next` comes from `period`, a period of the flips `from` to k - 1. The first flip since the landmark has the number `from`. Flip k takes a
+-- clause of this length. `next` is positive. It is a multiple of the length, if the length is positive. It is a multiple of `period` too, unless
+-- `from` is k.
 abbrev pub IsPeriodWith : ℕ → ℕ → Option ℕ → ℕ → ℕ → Type 0
 IsPeriodWith from k period length next = (0 < next) × (0 < length → next % length ≡ 0) × ((from ≡ k) ⊎ IsSomeAnd period (λ t. next % t ≡ 0))
 

@@ -14,7 +14,7 @@ abbrev pub IsAllowedAt : LocalRule → Tile → ℕ → Type 0
 IsAllowedAt r t k = rule_allows r (cell_in t k).node (get_or t.symbols k 0) ≡ true
 
 -- Let c be the cell with the number k, and let `symbol` be the symbol that this cell has. If b says whether the node of c allows `symbol`, then b
--- says whether the cell with the number k has a symbol that the cell's node allows.
+-- says whether `IsAllowedAt` holds for k.
 pub allowed_is : (r : LocalRule) (t : Tile) (k : ℕ) (c : Cell) (symbol : ℕ) (b : Bool) → c ≡ cell_in t k → symbol ≡ get_or t.symbols k 0 →
     b ≡ rule_allows r c.node symbol → rule_allows r (cell_in t k).node (get_or t.symbols k 0) ≡ b
 allowed_is r t k c symbol b is_cell is_symbol told =

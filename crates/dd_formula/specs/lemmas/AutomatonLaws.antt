@@ -171,7 +171,7 @@ first_in_order g cs =
     list_all-flat_map p (moved_cells g) (in_order cs)
     ∙ (list_all-in_order (λ c. list_all p (moved_cells g c)) cs ∙ sym (list_all-flat_map p (moved_cells g) cs)))
 
--- A composition reads the cells that its second part reads at each cell that its first part reads. Here the cells that the composition reads, and
+-- A composition reads the cells that its inner part reads at each cell that its outer part reads. Here the cells that the composition reads, and
 -- those that each part reads, are listed in cell order.
 pub reads_composed : (f g : Automaton) (a : ℕ) → cells_of (v.Composed f g) a ≡ in_order (flat_map (moved_cells g) (cells_of f a))
 reads_composed f g a =

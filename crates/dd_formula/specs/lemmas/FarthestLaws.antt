@@ -66,7 +66,7 @@ radius_more at n old e new cells is far greater near so_far =
     let here : e ≡ farthest (at n) = far ∙ ap farthest is in
     (node_more at n old e new cells is far greater so_far.0, still_near old e new greater so_far.1 (omega (arith, here, near)))
 
--- if there is no cell at any node, the farthest distance is 0
+-- if there is no cell at any node, the greatest distance is 0
 nothing_at : (at : ℕ → List Cell) → ((a : ℕ) → at a ≡ []) → (m n : ℕ) → farthest (flat_map at (range_with_len m n)) ≡ 0
 nothing_at at none m zero = refl
 nothing_at at none m (suc n) = ap farthest (flat_map-cons at m (range_with_len (m + 1) n) ∙ ap (λ cs. cs ++ flat_map at (range_with_len (m + 1) n)) (none m)) ∙ nothing_at at none (m + 1) n

@@ -172,7 +172,7 @@ case_step cases otherwise look at i case b below is here =
     ∙ (ap (λ t. cond t case.1 (first_case (drop (suc i) cases) otherwise look at)) here
     ∙ ap (λ n. cond b case.1 (first_case (drop n cases) otherwise look at)) (sym (add-one i))))
 
--- if `are_given` holds of the cells that the cases read, then it holds of the cells that one of the cases reads
+-- if `are_given` holds of the cells that the cases read, then it holds of the cells that the i-th case reads
 pub case_given : (cases : List (LocalRule × ℕ)) (look : Look) (p : Place) (a i : ℕ) (case : LocalRule × ℕ) → are_given look p (cases_reads cases a) ≡ true → i < length cases → case ≡ get_or cases i case →
     are_given look p (reads_at case.0 a) ≡ true
 case_given cases look p a i case given below is =

@@ -62,7 +62,7 @@ range_moved j (suc n) a =
 pub inputs_range : (m k : ℕ) → inputs_of m k ≡ range_with_len (k * m + 1) m
 inputs_range m k = range_moved (k * m) m 0 ∙ ap (λ b. range_with_len b m) (let e : suc (k * m + 0) ≡ k * m + 1 = omega arith in e)
 
--- the clauses of one cell: that it has some symbol, that it has no two symbols, and that it has no symbol that its node does not allow
+-- the clauses of one cell: that it has at least one symbol, that it has at most one, and that it has none that its node doesn't allow
 pub cell_parts : (x : LocalRule) (k node from end : ℕ) (all now some both new : List (List Literal)) → from ≡ k * x.symbols + 1 → end ≡ from + x.symbols → now ≡ all →
     some ≡ now ++ map (λ v. literal v true) (range_to from end) ∷ [] → both ≡ some ++ pairs (range_to from end) → new ≡ both ++ none_of x.symbols k (disallowed x node) →
     new ≡ all ++ symbol_clauses x k node

@@ -28,7 +28,7 @@ pub torus_is_tile : (x : LocalRule) (periods : Periods) (symbols : List ℕ) →
 torus_is_tile x periods symbols rule ok full =
     record { some_dimension = rule.dimension.0; most_dimension = rule.dimension.1; periods = ok.periods; nodes_some = rule.nodes.0; full = full }
 
--- a list of as many symbols as the torus has cells defines a periodic configuration that code can hold
+-- a list of as many symbols as the torus has cells defines a periodic configuration that the code can hold
 pub torus_is_periodic : (x : LocalRule) (periods : Periods) (symbols : List ℕ) → IsRule x → AreTorusPeriods x.dimension x.nodes periods → length symbols ≡ torus_size x periods →
     IsPeriodic (torus_of x periods symbols)
 torus_is_periodic x periods symbols rule ok full = record {

@@ -25,7 +25,7 @@ entries patterns e = map (entry e) (range_with_len 0 patterns)
 abbrev pub dense : ℕ → SparseRow → Row
 dense patterns r = record { coefficients = pos 1 ∷ flat_map (entries patterns) r.exchanges.items; bound = r.bound }
 
--- The numbers of two different patterns, or none. A pattern that isn't in the list has the length of the list as its number.
+-- Two different pattern numbers, or none. A pattern that isn't in the list has the length of the list as its number.
 abbrev pub IsExchange : ℕ → Option Exchange → Type 0
 IsExchange patterns None = Unit {0}
 IsExchange patterns (Some e) = (e.gives ≤ patterns) × (e.receives ≤ patterns) × (e.gives ≡ e.receives → ⊥)

@@ -46,8 +46,8 @@ pub record AcceptedAll (old new : Option (List ℕ)) (s : Parts) (answers : List
   pub all : AllAccepted s answers
   pub appends : Appends old new (accepted_lines (length answers) ++ checked_line (length answers))
 
--- If nothing is rejected, which the truth value says, the lines of all queries were written. Otherwise the lines up to and including that of the
--- first rejection were written.
+-- The truth value says whether the check rejected nothing. If so, the lines of all queries were written. Otherwise the lines up to and including that
+-- of the first rejection were written.
 abbrev pub EachJudged : Option (List ℕ) → Option (List ℕ) → Parts → List Answer → Bool → Type 0
 EachJudged old new s answers true = AcceptedEach old new s answers
 EachJudged old new s answers false = RejectedHere old new s answers
