@@ -1,6 +1,6 @@
 -- An output can hold the steps that refute a list of clauses, if variables, clauses and steps are few enough. The variables of the steps are in
--- range, and each clause that a step hints at or deletes comes before this step. The list `known` holds the clauses before a step: clause number
--- k + 1 at index k, or `None` if this clause is deleted.
+-- range, and each clause that a step uses as a hint or deletes comes before this step. The list `known` holds the clauses before a step: clause
+-- number k + 1 at index k, or `None` if this clause is deleted.
 use Rattle.std.proofs.Common.{◌≡◌, ℕ, zero, suc, ◌+◌, ◌<◌, ◌≤◌, Bool, true, false, not, ◌&&◌, ◌||◌, List, [], ◌∷◌, ◌++◌, length, map, Option, None, Some, is_some, slice_get, All, refl, sym, subst, ◌∙◌, ◌⊎◌, inl, inr, arith, nat_le, length-append}
 use Rattle.std.proofs.lemmas.Bool.{false≢true, leb-true, and_parts, or_cases}
 use Rattle.std.proofs.lemmas.List.{length-set, length-map, Elements.All-nil, Elements.All-cons}
@@ -35,7 +35,7 @@ hinted : (says : List Literal → Finding) (o : Option (List Literal)) (is_last 
 hinted says None is_last next goes_on = absurd (false≢true goes_on)
 hinted says (Some c) is_last next goes_on = refl
 
--- if the hints end in a conflict, the first one is the last, or its clause forces a literal and the others end in a conflict
+-- if the hints end in a conflict, the first one is the only one, or its clause forces a literal and the others end in a conflict
 followed : (says : Finding) (hints : List ℕ) (next : Literal → Bool) → follow says (is_empty hints) next ≡ true →
     (hints ≡ []) ⊎ ((l : Literal) × (next l ≡ true))
 followed Falsified [] next goes_on = inl refl

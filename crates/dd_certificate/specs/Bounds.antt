@@ -21,7 +21,7 @@ IsWritableSigned z = unsigned_abs z ≤ most_number
 abbrev pub IsWritableDenominator : ℕ → Type 0
 IsWritableDenominator n = (1 ≤ n) × (n ≤ most_number)
 
--- a number among a step's hints or deletions; clauses are numbered from 1
+-- a number among a step's hints or deletes; clauses are numbered from 1
 abbrev pub IsWritableHint : ℕ → Type 0
 IsWritableHint n = (1 ≤ n) × (n ≤ most_count)
 
@@ -59,7 +59,7 @@ IsWritableConfiguration periods shear symbols =
 abbrev pub IsWritablePart : ℕ → Type 0
 IsWritablePart part = (1 ≤ part) × (part ≤ 4)
 
--- no steps if the weight is 0; otherwise a refutation that an output can hold, of the claim that some weight is lower
+-- the steps of a `Least` answer: none if the weight is 0, and otherwise a refutation that an output can hold
 abbrev pub IsWritableBelow : ℕ → List Step → Type 0
 IsWritableBelow weight steps = ((weight ≡ 0) × (steps ≡ [])) ⊎ ((1 ≤ weight) × IsWritableRefutation steps)
 

@@ -94,7 +94,7 @@ pub enum Answer {
     Unknown {
         reason: Reason,
     },
-    /// For each node, the patterns that the rule forbids there and whose symbols are allowed.
+    /// For each node, the patterns of allowed symbols that the rule forbids there.
     List {
         patterns: Items<Listed>,
     },

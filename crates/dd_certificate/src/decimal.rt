@@ -4,7 +4,7 @@ ghost use Rattle.std.specs.Fmt.{decimal, signed_decimal};
 
 use std::alloc::AllocError;
 
-/// How many decimal digits a number of 64 bits has at most.
+/// The greatest number of decimal digits of a 64-bit number.
 const MOST_DIGITS: usize = 20;
 
 /// Writes the decimal digits of a number, without a leading zero, into a list of 21 bytes. The last digit has index 19. The

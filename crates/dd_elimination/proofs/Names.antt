@@ -13,7 +13,7 @@ module _ (names : List ℕ) (n : ℕ) (a : AreNames names n) (few : n < 2 ^ 32) 
   name_past : (k : ℕ) → length names ≤ k → new_name names (suc k) ≡ 2 ^ 32 + k
   name_past k h = rw (lt_no k (length names) h) refl
 
-  -- a number after the last variable gets a number that is greater than all names
+  -- a number after the last variable gets a number that isn't a name
   past_differs : (j k : ℕ) → j < length names → length names ≤ k → new_name names (suc j) ≡ new_name names (suc k) → ⊥
   past_differs j k h l e =
       let m = a.most j h in

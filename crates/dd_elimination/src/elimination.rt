@@ -107,8 +107,8 @@ fn is_alive(entries: &[Entry], index: usize) -> bool {
     }
 }
 
-/// `count` empty lists of indices. The list at the index that is a variable's number has room for the clauses that have the
-/// variable or its negation.
+/// `count` empty lists of indices. The list at index v has room for the indices of the clauses that have the variable v or its
+/// negation.
 fn empty_occurrences(
     alloc: Global,
     cnf: &Cnf,
@@ -319,7 +319,7 @@ impl Elimination {
         Ok(())
     }
 
-    /// Removes the clauses that this one subsumes, and shortens those that it can shorten, until `work` is 0.
+    /// Removes the clauses that this one subsumes, and shortens those that it can shorten. Stops once `work` is 0.
     fn compare(&mut self, alloc: Global, index: usize) -> Result<(), AllocError> {
         let Some(variable) = self.rarest_variable(index) else {
             return Ok(());
@@ -373,7 +373,7 @@ impl Elimination {
         Ok(())
     }
 
-    /// Tries to eliminate each of the candidates, until `work` is 0. Returns whether a variable was eliminated.
+    /// Tries to eliminate each of the candidates. Stops once `work` is 0. Returns whether a variable was eliminated.
     fn try_changed(&mut self, alloc: Global) -> Result<bool, AllocError> {
         let candidates = self.candidates(alloc)?;
         let mut sides = Sides {

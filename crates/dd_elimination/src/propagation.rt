@@ -48,7 +48,7 @@ pub(crate) fn code_of(literal: Literal) -> usize {
     if literal.positive { even + 1 } else { even }
 }
 
-/// Adds 1 to the count at a place, and returns the count before.
+/// Adds 1 to the count at a place, and returns the old count.
 fn raise(counts: &mut [u32], place: usize) -> usize {
     let Some(count) = counts.get_mut(place) else {
         return 0;

@@ -1,7 +1,7 @@
-//! The check of an elimination by resolution. Its steps have to be right, and may delete nothing. The variables of the reduced
-//! list have to stand for different variables of the whole list. Each clause of the reduced list comes with the number of a
-//! clause of the whole list or of a step (see `Reduced` in the file `whole.rt`), and has to stand for a clause that has the
-//! same literals as that one. Then each refutation of the reduced list gives one of the whole list: the steps of the
+//! The check of an elimination by resolution. Its steps have to be right, and must not delete anything. The variables of the
+//! reduced list have to stand for different variables of the whole list. Each clause of the reduced list comes with the number
+//! of a clause of the whole list or of a step (see `Reduced` in the file `whole.rt`), and has to stand for a clause that has
+//! the same literals as that one. Then each refutation of the reduced list gives one of the whole list: the steps of the
 //! elimination, followed by the refutation's steps with the variables of the whole list and new numbers in their hints. So only
 //! the elimination is checked, and not the steps of the search, which may be many.
 ghost use Rattle.std.specs.Prelude.{◌≡◌, true, map, IfOk};

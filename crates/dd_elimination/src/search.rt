@@ -52,7 +52,7 @@ impl Remainder {
 /// Finds an assignment that satisfies the clauses, or steps that refute them. The variables that unit propagation fixes are
 /// eliminated first, unless this propagation falsifies a clause. After that, the clauses that remain are searched in the given
 /// style (see `Style` in `dd_trail`). On the clauses of questions about boxes and tori, this is faster than `solve_with` of
-/// `dd_solver`. Where `solve_with` would give a long refutation, `solve_propagated` mostly gives a shorter one.
+/// `dd_solver`. Where `solve_with` would give a long refutation, `solve_propagated` usually gives a shorter one.
 ///
 /// # Errors
 /// `AllocError` if memory ran out.
@@ -66,9 +66,8 @@ pub fn solve_propagated(alloc: Global, cnf: &Cnf, style: Style) -> Result<Outcom
 
 /// Finds an assignment that satisfies the clauses, or steps that refute them. Variables are eliminated by resolution first,
 /// unless there are more than 200,000 clauses, or the squares of their lengths add up to 100,000,000 or more. If there are at
-/// most 200,000 clauses and unit propagation leaves at most half of them, the variables that it fixes are eliminated even
-/// before that. On clauses that ask for a configuration whose weight is below a bound, this is faster than `solve` of
-/// `dd_solver`.
+/// most 200,000 clauses and unit propagation leaves at most half of them, the variables that it fixes are eliminated before
+/// that. On clauses that ask for a configuration whose weight is below a bound, this is faster than `solve` of `dd_solver`.
 ///
 /// # Errors
 /// `AllocError` if memory ran out.

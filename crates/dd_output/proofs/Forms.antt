@@ -1,5 +1,5 @@
--- Good forms. A good form reads exactly the texts of the values that fit, and each such text has only one value. Where reading stops, the missing
--- text completes what was read to such a text. The least text of a good form is the text of a value that fits. Under the conditions of the lemmas
+-- Good forms. A good form reads exactly the texts of the values that fit, and each such text has only one value. Where reading stops, what was read
+-- and then the missing text make such a text. The least text of a good form is the text of a value that fits. Under the conditions of the lemmas
 -- below, a form that is made of good forms is good.
 use Rattle.std.proofs.Common.{◌≡◌, ℕ, zero, suc, ◌+◌, ◌<◌, ◌≤◌, ◌^◌, List, [], ◌∷◌, ◌++◌, length, Bool, true, false, cond, inl, inr, ◌⊎◌, refl, sym, ap, subst, ◌∙◌, append_assoc, arith}
 use Rattle.std.proofs.lemmas.{Bool.eqb-true, Bool.eq-eqb, Bool.false≢true, Fmt.decimal_digit}

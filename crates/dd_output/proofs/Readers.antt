@@ -14,7 +14,7 @@ pub record Halts {A : Type 0} (C : List ℕ → Type 0) (r : List ℕ → Read A
   pub no_more : (b : ℕ) (more after : List ℕ) → s.left ≡ b ∷ more → r (front ++ b ∷ after) ≡ Err (stop (b ∷ after) s.missing)
 
 -- The law of a reader. A value x fits if F x holds. Its text is t x. The reader reads exactly the texts of the values that fit, each as its value.
--- Wherever it stops, the missing text completes what it read to a text of which C holds.
+-- Wherever it stops, what it read and then the missing text make a text of which C holds.
 pub record Reads {A : Type 0} (F : A → Type 0) (t : A → List ℕ) (C : List ℕ → Type 0) (r : List ℕ → Read A) : Type 0 where
   pub takes : (bytes : List ℕ) (x : A) (rest : List ℕ) → r bytes ≡ Ok (x, rest) → (bytes ≡ t x ++ rest) × F x
   pub again : (x : A) (rest : List ℕ) → F x → r (t x ++ rest) ≡ Ok (x, rest)

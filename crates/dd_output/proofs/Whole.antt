@@ -1,5 +1,5 @@
--- Reading all of the bytes: they are the text of at most one output, and bytes that aren't the text of an output are refused at their offset. From
--- this follow the laws of `src/laws.rt`.
+-- Reading all of the bytes: they are the text of at most one output, and bytes that aren't the text of an output are refused at their offset. The
+-- laws of `src/laws.rt` follow from this.
 use Rattle.std.proofs.Common.{◌≡◌, ℕ, suc, ◌+◌, ◌-◌, ◌<◌, ◌≤◌, List, [], ◌∷◌, ◌++◌, length, length-append, take, Result, Ok, Err, Bool, true, false, cond, ◌⊎◌, inl, inr, refl, sym, ap, subst, ◌∙◌, append_assoc, arith}
 use Rattle.std.proofs.lemmas.Bool.{eqb-true, Decides.leb_tells}
 use Rattle.std.proofs.{lemmas.List.append-nil, lemmas.List.nil_from_length, lemmas.List.take_at, lemmas.List.drop_at, Math.Seq.take-add}

@@ -16,8 +16,8 @@ abbrev pub IsOutputFault : List ℕ → CertificateFault → Type 0
 IsOutputFault bytes faults.Memory = Unit {0}
 IsOutputFault bytes (faults.Malformed offset) = (IsWellFormed bytes → ⊥) × IsOffset bytes offset
 
--- What reading the bytes gives: the only output with this text, or a fault. The fault says that there is no such output, and gives the offset of the
--- bytes, or it says that memory ran out.
+-- What reading the bytes gives: the only output within bounds that has this text, or a fault. The fault says that there is no such output, and gives
+-- the offset of the bytes, or it says that memory ran out.
 abbrev pub ReadsOutput : List ℕ → Result Output CertificateFault → Type 0
 ReadsOutput bytes (Ok o) = IsWritableOutput o × (bytes ≡ output_text o)
 ReadsOutput bytes (Err fault) = IsOutputFault bytes fault

@@ -69,7 +69,7 @@ fn yes_of(alloc: Global, bytes: &[u8]) -> Result<(Answer, &[u8]), ReadFault>
 
 // ---- NO and UNKNOWN
 
-/// A `NO` whose two letters were already read.
+/// A `NO` whose two letters have already been read.
 #[tactic(auto, unfolding(crate::specs::reading::Grammar::no_row))]
 fn no_of(alloc: Global, bytes: &[u8]) -> Result<(Answer, &[u8]), ReadFault>
     ensures { Gives (λ x. (x.0, x.1.now)) result (grammar.no_row.read bytes.now) }
@@ -162,7 +162,7 @@ fn patterns_of(alloc: Global, count: u64, bytes: &[u8]) -> Result<(Items<Listed>
     Ok((patterns, rest))
 }
 
-/// A `LIST` whose `L` was already read.
+/// A `LIST` whose `L` has already been read.
 #[tactic(auto, unfolding(crate::specs::reading::Grammar::list_row))]
 fn list_of(alloc: Global, bytes: &[u8]) -> Result<(Answer, &[u8]), ReadFault>
     ensures { Gives (λ x. (x.0, x.1.now)) result (grammar.list_row.read bytes.now) }
@@ -277,7 +277,7 @@ fn amounts_and_duals_of(
     Ok((amounts, duals, rest))
 }
 
-/// A `BOUND` whose `B` was already read.
+/// A `BOUND` whose `B` has already been read.
 #[tactic(auto, unfolding(crate::specs::reading::Grammar::bound_row))]
 fn bound_of(alloc: Global, bytes: &[u8]) -> Result<(Answer, &[u8]), ReadFault>
     ensures { Gives (λ x. (x.0, x.1.now)) result (grammar.bound_row.read bytes.now) }

@@ -43,7 +43,7 @@ pub(crate) fn conjugate_of(alloc: Global, bytes: &[u8]) -> Result<(Answer, &[u8]
     Ok((Answer::Conjugate { radii, steps }, rest))
 }
 
-/// A `BROKEN` answer whose `B` was already read. Its `part` is the number of the question, from 1.
+/// A `BROKEN` answer whose `B` has already been read. Its `part` is the number of the question, from 1.
 #[tactic(auto, unfolding(crate::specs::reading::Grammar::broken_row))]
 pub(crate) fn broken_of(alloc: Global, bytes: &[u8]) -> Result<(Answer, &[u8]), ReadFault>
     ensures { Gives (λ x. (x.0, x.1.now)) result (grammar.broken_row.read bytes.now) }

@@ -23,8 +23,8 @@ pub fn one_offset()
     ensures { (bytes : List ℕ) (m n : ℕ) → IsOffset bytes m → IsOffset bytes n → m ≡ n }
 {}
 
-/// Does nothing. Its contract says that a prefix of an output's text, followed by the prefix's `completion`, is the text of an
-/// output.
+/// Does nothing. Its contract says that a prefix of the text of an output within bounds, followed by the prefix's `completion`,
+/// is the text of an output within bounds.
 pub fn completes()
     ensures { (front more : List ℕ) → IsWellFormed (front ++ more) → IsWellFormed (front ++ completion front) }
 {}

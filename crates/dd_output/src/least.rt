@@ -57,7 +57,7 @@ fn weight_of(
     }
 }
 
-/// A `LEAST` answer whose `L` was already read.
+/// A `LEAST` answer whose `L` has already been read.
 #[tactic(auto, unfolding(crate::specs::reading::Grammar::least_row))]
 pub(crate) fn least_of(alloc: Global, bytes: &[u8]) -> Result<(Answer, &[u8]), ReadFault>
     ensures { Gives (λ x. (x.0, x.1.now)) result (grammar.least_row.read bytes.now) }
@@ -74,7 +74,7 @@ pub(crate) fn least_of(alloc: Global, bytes: &[u8]) -> Result<(Answer, &[u8]), R
     ))
 }
 
-/// A `NONE` answer whose `NO` was already read.
+/// A `NONE` answer whose `NO` has already been read.
 #[tactic(auto, unfolding(crate::specs::reading::Grammar::nothing_row))]
 pub(crate) fn nothing_of(alloc: Global, bytes: &[u8]) -> Result<(Answer, &[u8]), ReadFault>
     ensures { Gives (λ x. (x.0, x.1.now)) result (grammar.nothing_row.read bytes.now) }

@@ -3,8 +3,8 @@
 //! on the number of answers, and on the numbers and lists of each answer. Only this form and these bounds are checked here: the
 //! script may be any bytes, and answers may be wrong. Bytes that aren't the text of an output are refused at their first wrong
 //! byte, or at their end if they stop too early. Some output begins with the bytes before that point, but none begins with
-//! these bytes and the wrong one. Wherever reading stops, a text completes what was read: appended to the bytes before that
-//! point, it makes the text of an output.
+//! these bytes and the wrong one. Wherever reading stops, there is a text that completes what was read: appended to the bytes
+//! before that point, it gives the text of an output.
 //!
 //! The grammar of answers is a table. Each row is for one kind of answer, or for two kinds whose texts begin alike. `Answer` in
 //! `dd_certificate` says what the parts of an answer mean. Each position of Z^d has one or more nodes. A cell is a position

@@ -132,7 +132,7 @@ fn all_of(alloc: Global, bytes: &[u8]) -> Result<Output, ReadFault>
     Ok(output)
 }
 
-/// Reads a whole output: the only one whose text is `bytes`.
+/// Reads a whole output: the only one within bounds whose text is `bytes`.
 ///
 /// # Errors
 ///

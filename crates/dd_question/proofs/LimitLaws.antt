@@ -1,5 +1,5 @@
--- `list_any` computes whether some number below n passes a test. Its value for n + 1 is false if its value for n is false and n fails the test. Its
--- value for n is true if a given number below n passes the test.
+-- Over the numbers below n, `list_any` computes whether one of them passes a test. Its value for n + 1 is false if its value for n is false and n
+-- fails the test. Its value for n is true if a given number below n passes the test.
 use Rattle.std.proofs.Common.{◌≡◌, ◌<◌, ◌+◌, ℕ, Bool, true, false, [], ◌∷◌, length, get_or, refl, ap, ◌∙◌, arith}
 use Rattle.std.specs.List.{list_any, range_with_len}
 use Rattle.std.proofs.lemmas.List.Folds.{list_any-append, list_any_at}

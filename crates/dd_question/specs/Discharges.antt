@@ -15,7 +15,7 @@ pub record IsDischargeable (x : LocalRule) (reach growth : ℕ) (vs : List Place
   pub vectors : AreVectors x.dimension vs
   pub weights : AreWeightsFor x ws
 
--- the fault of the first of these four conditions, in this order, that doesn't hold
+-- the fault for the first of these four conditions that doesn't hold
 pub data IsDischargeFault (x : LocalRule) (reach growth : ℕ) (vs : List Place) (ws : List ℕ) : QuestionFault → Type 0 where
   radius_fault : ¬ (reach ≤ widest_radius) → IsDischargeFault x reach growth vs ws fault.Radius
   margin_fault : reach ≤ widest_radius → ¬ (growth ≤ widest_radius) → IsDischargeFault x reach growth vs ws fault.Margin

@@ -41,13 +41,13 @@ pub data Asked : Type 0 where
   -- What is the least weight of a configuration that obeys the rule and has these periods, and no shear? The weight of a configuration is that of its
   -- fundamental box, the box that repeats.
   least : LocalRule → List ℕ → List ℕ → Asked
-  -- What is the best lower bound that a discharge shows for the density (the weight per position) of every configuration that obeys the rule? Each
+  -- What is the best lower bound that a discharge gives for the density (the weight per position) of every configuration that obeys the rule? Each
   -- position first holds the weight of its symbols. Then, along each of the vectors, it gives an amount to the position at the vector's end. The
   -- first number of the question is the radius: the symbols of the box of this radius around a position determine what it gives. A bound is a number
-  -- such that a position holds at least this number in the end, in each admissible filling of a finite region around it. A bound is also at most the
-  -- number of nodes times the greatest weight. The region consists of the boxes of this radius around the position and around the positions that give
-  -- to it. Each of these boxes is enlarged by the second number, the margin, in every direction. A filling of the region is admissible if its symbols
-  -- are allowed and the rule is true at each cell of the region at which it reads only cells of the region.
+  -- such that a position holds at least this number in the end, in each admissible filling of a finite region around it. A bound must also be at most
+  -- the number of nodes times the greatest weight. The region consists of the boxes of this radius around the position and around the positions that
+  -- give to it. Each of these boxes is enlarged by the second number, the margin, in every direction. A filling of the region is admissible if its
+  -- symbols are allowed and the rule is true at each cell of the region at which it reads only cells of the region.
   discharge : LocalRule → ℕ → ℕ → List Place → List ℕ → Asked
 
 -- the question that a value of the code stands for

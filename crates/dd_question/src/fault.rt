@@ -42,9 +42,9 @@ pub enum QuestionFault {
     /// The margin of a discharge is over 3.
     #[error("the margin is over 3")]
     Margin,
-    /// A discharge has no vectors or more than 16, or two of them are equal. Or one of them is over 4 long along an axis, or is
-    /// not 0 along an axis past the rule's dimension.
-    #[error("there are no vectors or more than 16, two of them are equal, or one of them is too long or of another dimension than the rule")]
+    /// A discharge has no vectors or more than 16, or two of them are equal. Or one of them is longer than 4 along an axis, or
+    /// is not 0 along an axis past the rule's dimension.
+    #[error("there are no vectors or more than 16, two of them are equal, or one of them is too long or not 0 along an axis past the rule's dimension")]
     Vectors,
     /// The question exceeds a limit on its work.
     #[error("the question exceeds a limit on its work")]

@@ -22,9 +22,9 @@ use dd_formula::Rule;
 use dd_values::Limits;
 use std::alloc::{AllocError, Global};
 
-/// Whether the upper bound for the clauses of this box question is over `MOST_CLAUSES`. The clauses are those of the largest
-/// box or torus that a search may try. The largest box has the radius `limits.radius`, unless the goal reads farther. Then it
-/// is the smallest box that holds all cells that the goal reads at the origin.
+/// Whether the upper bound for the number of clauses of this box question is over `MOST_CLAUSES`. The clauses are those of the
+/// largest box or torus that a search may try. The largest box has the radius `limits.radius`, unless the goal reads farther.
+/// Then it is the smallest box that holds all cells that the goal reads at the origin.
 fn is_long(alloc: Global, limits: &Limits, premise: &Rule, goal: &Goal) -> Result<bool, AllocError>
     requires limits { AreLimits limits.now }
     requires goal { IsGoalFor premise.now (goal_of premise.now goal.now) }

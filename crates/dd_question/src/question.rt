@@ -56,14 +56,14 @@ pub enum Question<'a> {
         periods: [u32; 3],
         weights: &'a [u32],
     },
-    /// What is the best lower bound that a discharge shows for the density (the weight per position) of every configuration
+    /// What is the best lower bound that a discharge gives for the density (the weight per position) of every configuration
     /// that obeys the rule? In a discharge, each position first holds the weight of its symbols. Then, along each of the
     /// vectors, it gives an amount to the position at the vector's end. The symbols of the box of radius `radius` around a
     /// position determine what it gives. A bound is a number such that a position holds at least this number in the end, in
-    /// each admissible filling of a finite region around it. A bound is also at most the number of nodes times the greatest
-    /// weight. The region consists of the boxes of radius `radius` around the position and around the positions that give to
-    /// it, each enlarged by `margin` in every direction. A filling of the region is admissible if its symbols are allowed and
-    /// the rule is true at each cell of the region at which it reads only cells of the region.
+    /// each admissible filling of a finite region around it. A bound must also be at most the number of nodes times the
+    /// greatest weight. The region consists of the boxes of radius `radius` around the position and around the positions that
+    /// give to it, each enlarged by `margin` in every direction. A filling of the region is admissible if its symbols are
+    /// allowed and the rule is true at each cell of the region at which it reads only cells of the region.
     Discharge {
         rule: &'a Rule,
         radius: u32,

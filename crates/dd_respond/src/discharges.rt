@@ -1,8 +1,8 @@
 //! Answers to questions about discharging. In a discharge, each position first holds the weight of its symbols. Then, along
-//! each vector of a list, it gives an amount to the position at the vector's end. The pattern around the giver determines the
-//! amount, which is at least 0. A bound is a number such that each position holds at least this number in the end, in each
-//! admissible filling of the cells around it (see `dd_rows`). It must not exceed the number of nodes times the greatest weight.
-//! The best bound, over all such discharges, is the value of a linear program (see `dd_discharge`).
+//! each vector of a list, it gives an amount to the position at the vector's end. The vector and the pattern around the giver
+//! determine the amount, which is at least 0. A bound is a number such that each position holds at least this number in the
+//! end, in each admissible filling of the cells around it (see `dd_rows`). It must not exceed the number of nodes times the
+//! greatest weight. The best bound, over all such discharges, is the value of a linear program (see `dd_discharge`).
 ghost use Rattle.std.specs.Prelude.{◌≡◌, IfOk};
 ghost use Rattle.dd_certificate.specs.Bounds.{IsWritable};
 ghost use Rattle.dd_discharge.specs.Printed.{IsSmallBound};
@@ -44,9 +44,9 @@ fn reason_of(fault: DischargeFault) -> Result<Reason, AllocError>
 }
 
 /// The best bound over all discharges along the vectors, with its evidence. The amounts depend on the patterns of the given
-/// radius. The fillings cover the boxes of this radius around a position and around those that give to it, each box enlarged by
-/// the margin in every direction (see `dd_rows`). The simplex run may take at most `pivots` pivots. If no bound is found, the
-/// answer is UNKNOWN with the reason.
+/// radius. The bound must hold in each admissible filling of the boxes of this radius around a position and around those that
+/// give to it, each box enlarged by the margin in every direction (see `dd_rows`). The simplex run may take at most `pivots`
+/// pivots. If no bound is found, the answer is UNKNOWN with the reason.
 pub(crate) fn discharged(
     alloc: Global,
     rule: &Rule,

@@ -12,10 +12,10 @@
 //! roster. In the search, the engines of a roster are asked about each list of clauses. If none of them makes a right
 //! proposal, a solver decides.
 //!
-//! The limits bound the radii and the periods of the search, and the pivots of a run of the simplex method. But the smallest
-//! box that holds all that the goal reads is always tried. If the limits leave a question undecided, the answer is UNKNOWN. The
-//! answer to a question about discharging is also UNKNOWN if the question's linear program, or a number in the run or in its
-//! result, is too large.
+//! The limits bound the radii and the periods of the search, and the number of pivots in a run of the simplex method. But the
+//! smallest box that holds all that the goal reads is always tried. If the limits leave a question undecided, the answer is
+//! UNKNOWN. The answer to a question about discharging is also UNKNOWN if the question's linear program, or a number in the run
+//! or in its result, is too large.
 #![tactic(auto)]
 
 mod boxes;

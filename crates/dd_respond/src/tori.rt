@@ -1,6 +1,6 @@
 //! Answers to questions about the least weight of a fundamental box, the box that repeats in a periodic configuration. Each
-//! symbol has a weight, and the weight of a box is the sum over its cells. The configurations have no shear here: each period
-//! vector lies along its own axis.
+//! symbol has a weight, and the weight of a box is the sum of the weights of its cells' symbols. The configurations have no
+//! shear here: each period vector lies along its own axis.
 ghost use Rattle.std.specs.Prelude.{◌≡◌, IfOk};
 ghost use Rattle.dd_certificate.specs.Bounds.{IsWritable};
 ghost use Rattle.dd_counter.specs.Least.{IsLeast};
@@ -15,8 +15,8 @@ use dd_formula::Rule;
 use std::alloc::{AllocError, Global};
 
 /// The answer that a least weight gives. It has a configuration of this weight, and steps that refute smaller weights; if the
-/// weight is 0, there are no steps. If no configuration of the given periods lives in the rule's subshift, the answer has steps
-/// that show this.
+/// weight is 0, there are no steps. If no configuration with the given periods lives in the rule's subshift, the answer has
+/// steps that show this.
 fn written_weight(alloc: Global, found: LeastWeight) -> Result<Answer, AllocError>
     ensures { IfOk result (λ answer. answer ≡ written_weight found) }
 {

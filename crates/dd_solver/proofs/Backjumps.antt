@@ -12,8 +12,8 @@ use Rattle.dd_solver.specs.searching.Analysis.{marks, ChoiceSays, Asserts}
 use Rattle.dd_solver.specs.lemmas.Forcing.{in_left, in_cases, in_one}
 use Rattle.dd_trail.specs.lemmas.Forcing.{forced_from}
 
--- The backjump's place is that of a decision. The backjump's literal is learned, and is the negated literal of an entry at this place or later. The
--- entries before this place make the other learned literals false. No entry from this place up to but excluding place i is marked.
+-- The backjump's place is that of a decision. The backjump's literal is a learned literal, and is the negated literal of an entry at this place or
+-- later. The entries before this place make the other learned literals false. No entry from this place up to but excluding place i is marked.
 pub record BackjumpOk (trail : List Entry) (i : ℕ) (marked : List Bool) (learned : List Literal) (t : Backjump) : Type 0 where
   pub top : (u : ℕ) × (t.place ≤ u) × (u < length trail) × ((d : Entry) → t.literal ≡ negation (get_or trail u d).literal)
   pub decided : (d : Entry) → (get_or trail t.place d).reason ≡ None

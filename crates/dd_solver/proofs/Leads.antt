@@ -1,5 +1,6 @@
--- The walk down the trail. At each place, the hints so far lead to a conflict if the literals of a list that `Start` allows are false. At the bottom
--- of the trail, these are the literals of the learned clause, so the hints show that it follows. This holds whichever entries are kept or resolved.
+-- The walk down the trail. At each place, take any list that `Start` allows: if its literals are false, the hints so far lead to a conflict. At the
+-- bottom of the trail, its literals are those of the learned clause, so the hints show that this clause follows. This holds whichever entries are
+-- kept or resolved.
 use Rattle.std.proofs.Common.{◌≡◌, ℕ, ◌+◌, ◌<◌, ◌≤◌, Bool, true, false, not, ◌&&◌, List, [], ◌∷◌, ◌++◌, Option, Some, None, refl, ap, sym, ◌∙◌, subst, length, get_or, take, eqb, inl, inr, ◌⊎◌, arith}
 use Rattle.std.proofs.lemmas.Bool.{and_parts, and_from, or_cases, or_left, or_right, not-true, false≢true, false_from_ne_true, cases_eq, le-leb, ne_eqb}
 use Rattle.std.proofs.lemmas.List.Folds.{list_any-append}

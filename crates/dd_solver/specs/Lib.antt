@@ -1,6 +1,6 @@
 -- when the outcome of a search is right
 pub mod Answers
--- when each step of a refutation is used
+-- when each step of a refutation but the last is used
 pub mod Trimming
 -- lemmas on these definitions, with their proofs
 pub mod lemmas

@@ -1,4 +1,4 @@
--- When each step of a refutation is used.
+-- When each step of a refutation but the last is used.
 use Rattle.std.specs.Prelude.{ℕ, suc, ◌==◌, Bool, true, ◌&&◌, ◌||◌, List, [], ◌∷◌}
 use Rattle.std.specs.List.{list_any}
 use Rattle.dd_derivation.specs.{declared.step.Step.Step, Derivations.is_empty}

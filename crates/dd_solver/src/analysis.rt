@@ -313,8 +313,8 @@ fn bump_reasons(
     }
 }
 
-/// Makes the variables of the learned clause more active once again. Then looks at the clauses that forced their values: each
-/// variable of these clauses becomes more active once, unless it is fixed.
+/// Makes the variables of the learned clause more active a second time. Then looks at the clauses that forced their values:
+/// each variable of these clauses becomes more active once, unless it is fixed.
 fn bump_again(
     order: &mut Order,
     database: &Database,

@@ -156,7 +156,7 @@ impl Deletion {
     }
 
     /// In the selective style (see `Style`), makes some of these variables more active: those whose values were forced after
-    /// the last decision by a learned clause that has fewer levels than the one noted last (Audemard and Simon 2009).
+    /// the last decision, and by a learned clause that has fewer levels than the one noted last (Audemard and Simon 2009).
     pub(crate) fn bump_selected(
         &self,
         order: &mut Order,

@@ -10,12 +10,12 @@
 //! the entry's reason, forced its literal. A clause forces a literal if the literal has no value yet and all other literals of
 //! the clause are false. A clause is falsified if all of its literals are false. A conflict is a falsified clause.
 //!
-//! At a conflict, the search learns a clause, which becomes a step. It starts from the conflict, and marks the conflict's
-//! variables. An entry is marked if its variable is. The search walks down the trail, from the newest entry to the oldest, and
-//! resolves or keeps each marked entry. To resolve an entry means to resolve the clause reached so far with the entry's reason.
-//! The variables of the reason are then marked too. The negated literals of the kept entries form the learned clause. If it is
-//! not empty, a backjump follows: a decision and all entries after it are removed from the trail, so that the learned clause
-//! forces a literal, which is made true.
+//! At a conflict, the search learns a clause, which becomes a step. The search starts from the conflict, and marks the
+//! conflict's variables. An entry is marked if its variable is. The search walks down the trail, from the newest entry to the
+//! oldest, and resolves or keeps each marked entry. To resolve an entry means to resolve the clause reached so far with the
+//! entry's reason. The variables of the reason are then marked too. The negated literals of the kept entries form the learned
+//! clause. If it is not empty, a backjump follows: a decision and all entries after it are removed from the trail, so that the
+//! learned clause forces a literal, which is made true.
 #![tactic(auto, using(std::proofs::lemmas::Grind::common_steps))]
 
 mod analysis;

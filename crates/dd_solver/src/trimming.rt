@@ -1,7 +1,7 @@
 //! The trimming of a refutation. A search also learns clauses that its refutation does not need in the end. Trimming marks the
-//! last step. Then it walks back from there to the first step, and for each marked step marks the steps that its hints name
-//! (Goldberg and Novikov 2003). The marked steps are kept, and get new numbers. Their hints name the same clauses as before, by
-//! the new numbers. The kept steps delete nothing.
+//! last step. Then it walks back from there to the first step. At each marked step, it marks the steps that the hints of this
+//! step name (Goldberg and Novikov 2003). The marked steps are kept, and get new numbers. Their hints name the same clauses as
+//! before, by the new numbers. The kept steps delete nothing.
 ghost use Rattle.std.specs.Prelude.{◌≡◌, ℕ, suc, ◌+◌, ◌<◌, ◌≤◌, ◌^◌, ◌||◌, [], true, false, length, map, All, IfOk, MatchOption, slice_index_or};
 ghost use Rattle.dd_derivation.specs.Derivations.{refutes};
 ghost use Rattle.dd_solver.specs.Trimming.{is_hint, are_used};

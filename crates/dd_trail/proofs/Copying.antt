@@ -117,7 +117,7 @@ module _ (known : List (Option (List Literal))) (copy : Copy) (falses : List Lit
       apart x w (inl e) n m = others x w (λ q. n (q ∙ sym e.0)) (λ q. m (q ∙ sym e.1))
       apart x w (inr e) n m = others x w (λ q. m (q ∙ sym e.1)) (λ q. n (q ∙ sym e.0))
 
-      -- the place of l belongs to the clause, since it lies between the first place and the end mark
+      -- the place of l belongs to the clause, since it is the first place or the one after it, and so stands before the end mark
       here : {c : List Literal} → HoldsClause copy r c → In c l
       here {c} h =
           let w = h.only place (within which) (numbered which) coded in

@@ -10,7 +10,7 @@ use Rattle.dd_derivation.specs.{Derivations.same_literal, Derivations.is_among, 
 use Rattle.dd_trail.specs.{declared.trail.Entry.Entry, Trails.falses, Trails.IsFull, keeping.Values.IsNewTo}
 use Rattle.dd_trail.specs.lemmas.Trails.{has_variable-in, in-has_variable, absent}
 
--- a variable with this value makes its literal of this sign false; without a value (None), no literal is false
+-- a variable with this value makes its literal of this sign false; a variable without a value (None) makes neither of its literals false
 abbrev pub value_denies : Bool → Option Bool → Bool
 value_denies positive None = false
 value_denies positive (Some value) = not (beq value positive)

@@ -49,10 +49,10 @@ pub enum Style {
     /// cellular automata differ.
     Focused,
     /// As in the focused style, a variable becomes more active only once in a conflict, with this exception: it becomes more
-    /// active a second time if its value was forced after the last decision by a learned clause that has fewer levels than the
-    /// new one (Audemard and Simon 2009). The levels of a clause are the different decision levels above 0 of its literals.
-    /// Each conflict adds still more than in the focused style. This style is better after many variables have been eliminated
-    /// by resolution.
+    /// active a second time if its value was forced after the last decision, and by a learned clause that has fewer levels than
+    /// the new one (Audemard and Simon 2009). The levels of a clause are the different decision levels above 0 of its literals.
+    /// What a conflict adds grows still faster than in the focused style. This style is better after many variables have been
+    /// eliminated by resolution.
     Selective,
 }
 
@@ -83,7 +83,7 @@ pub struct Order {
 }
 
 impl Order {
-    /// The order at the start: all variables wait to be decided, each with activity 0, and false as the value that it had last.
+    /// The order at the start: all variables wait to be decided. Each has activity 0, and false counts as its last value.
     pub fn new(alloc: Global, variables: usize, style: Style) -> Result<Order, AllocError> {
         let idle = Rank {
             activity: 0,
@@ -146,8 +146,8 @@ impl Order {
         }
     }
 
-    /// Whether a variable comes before another one, which has the given activity: it is more active, or it is equally active
-    /// and has the lower number.
+    /// Whether `variable` comes before `other`, which has the given activity: `variable` is more active, or both are equally
+    /// active and `variable` has the lower number.
     fn is_before(&self, variable: usize, other: usize, activity: u64) -> bool {
         let own = self.activity(variable);
         own > activity || (own == activity && variable < other)

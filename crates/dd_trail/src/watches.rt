@@ -28,7 +28,7 @@ use std::alloc::{AllocError, Global};
 use std::marker::Model;
 use std::mem;
 
-/// A clause that watches a literal.
+/// Names a clause that watches a literal.
 #[derive(Clone, Copy)]
 struct Watcher {
     /// The place of the clause's first literal in `Watches::literals`.
@@ -189,7 +189,7 @@ impl Model for Watches {
 }
 
 impl Watches {
-    /// Watches without clauses, for this many variables, which must be fewer than 2^32.
+    /// The watches before any clause has been added, for this many variables, which must be fewer than 2^32.
     pub fn new(alloc: Global, variables: usize) -> Result<Watches, AllocError>
         requires { variables < 2 ^ 32 }
         ensures copied { IfOk result (λ watches. (known : List (Option (List Literal))) → AreCopied known watches) }
@@ -296,7 +296,7 @@ impl Watches {
         Ok(())
     }
 
-    /// Exchanges a literal's list with `passed`: takes the list out, so that its watchers are passed, or puts it back.
+    /// Exchanges a literal's list with `passed`: takes the list out, so that its watchers can be passed, or puts it back.
     fn exchange(&mut self, literal: Code)
         ensures { self.new ≡ self.old }
     {

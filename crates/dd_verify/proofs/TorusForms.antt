@@ -1,5 +1,5 @@
--- Certificates for the least weight on a torus: their configurations, how many clauses their steps refute, when an output can hold them, and that
--- their claims are true.
+-- Certificates for the least weight on a torus: their configurations, the number of clauses that their steps refute, when an output can hold a
+-- certificate, and a proof that their claims are true.
 use Rattle.std.proofs.Common.{◌≡◌, ◌≢◌, ℕ, suc, ◌*◌, ◌<◌, ◌≤◌, Bool, true, List, [], ◌∷◌, length, inl, inr, refl, ap, sym, subst, ◌∙◌, arith}
 use Rattle.std.proofs.lemmas.Nat.{mul-le}
 use Rattle.std.specs.{Prelude.◌↔◌, List.All}

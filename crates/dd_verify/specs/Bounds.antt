@@ -19,13 +19,13 @@ use Rattle.dd_certificate.specs.declared.answer.Answer.TheVariants as answer
 -- Least densities. A strip has periods along y and z, listed by `strip`, and no end along x. A configuration lives on the strip if it has allowed
 -- symbols, these two periods, some period along x and no shear, and obeys the rule. `ws` lists the weights of the symbols, and the density of a
 -- configuration is its weight per position. A slice consists of the strip's cells with one value of x. A state of the strip's transfer graph is a
--- fixed number of consecutive slices, with a symbol of the alphabet for each of their cells, whether or not the cell's node allows it. A state with
--- one more slice is a window. For each window that the rule allows (see dd_transfer), an edge leads from the window without its last slice to the
--- window without its first slice. A certificate for the density p / q has a closed walk through this graph, and potentials (a number for each state)
--- which show that no closed walk has a smaller mean weight. (A walk weighs as much as the last slices of its states together. Its mean weight is this
--- weight divided by the number of its states.) The mean weight of the certificate's walk, divided by the number of positions in a slice, is p / q. If
--- no configuration lives on the strip, a certificate instead has ranks: a number for each state, which falls along each edge. The ranks show that
--- there is no closed walk, and so no configuration on the strip.
+-- fixed number of consecutive slices, with a symbol of the alphabet for each of their cells, whether or not the cell's node allows it. A window is
+-- the same, but with one more slice. For each window that the rule allows (see dd_transfer), an edge leads from the window without its last slice to
+-- the window without its first slice. A certificate for the density p / q has a closed walk through this graph, and potentials (a number for each
+-- state) which show that no closed walk has a smaller mean weight. (A walk weighs as much as the last slices of its states together. Its mean weight
+-- is this weight divided by the number of its states.) The mean weight of the certificate's walk, divided by the number of positions in a slice, is p
+-- / q. If no configuration lives on the strip, a certificate instead has ranks: a number for each state, which falls along each edge. The ranks show
+-- that there is no closed walk, and so no configuration on the strip.
 pub data IsStripCertificate (x : LocalRule) (strip ws : List ℕ) : Answer → Type 0 where
   strip_least : {p q : ℕ} {cycle : List ℕ} {potentials : List ℤ} → IsDensityCertificate x (strip_for x strip) ws p q cycle potentials →
       IsStripCertificate x strip ws (answer.Density p q cycle potentials)
@@ -50,7 +50,8 @@ pub data StripClaim (x : LocalRule) (strip ws : List ℕ) : Answer → Type 0 wh
 -- vector depends on the symbols of the box of radius `radius` round it. A certificate has amounts that meet the rows of a linear program: in each
 -- admissible filling of a finite region, the origin then holds at least the bound. It also has duals (factors for the rows) which show that no
 -- amounts that meet the rows give a greater bound. The region consists of the boxes of this radius round the origin and round the positions that give
--- to it, enlarged by `margin` in every direction. An answer UNKNOWN is a certificate, too, if it has one of the three reasons why no bound was found.
+-- to it, enlarged by `margin` in every direction. The answer UNKNOWN is also a certificate if it gives one of the three reasons why no bound may have
+-- been found.
 pub data IsDischargeCertificate (x : LocalRule) (radius margin : ℕ) (vs : List Place) (ws : List ℕ) : Answer → Type 0 where
   best : {p q n : ℕ} {amounts duals : List ℕ} → IsBoundCertificate x ws radius margin vs (bound_claimed p q n amounts duals) →
       IsDischargeCertificate x radius margin vs ws (answer.Bound p q n amounts duals)

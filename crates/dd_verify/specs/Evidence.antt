@@ -37,17 +37,17 @@ pub data IsBoxCertificate (l : Limits) (x : LocalRule) (g : GoalOf) : Answer →
   box_no : {along : List ℕ} {shear : ℕ} {symbols : List ℕ} → IsNo l x g along shear symbols → IsBoxCertificate l x g (answer.No side.Whole along shear symbols)
   box_unknown : IsBoxCertificate l x g (answer.Unknown reason.Limits)
 
--- An equality question is two box questions. The left one asks whether no configuration that obeys x breaks y, and the right one whether none that
--- obeys y breaks x. A certificate is one of three answers: a YES to both questions; a NO to one of them, with the side of this question; or UNKNOWN
--- with the limits as the reason.
+-- An equality question comes down to two box questions. The left one asks whether no configuration that obeys x breaks y, and the right one whether
+-- none that obeys y breaks x. A certificate is one of three answers: a YES to both questions; a NO to one of them, with the side of this question; or
+-- UNKNOWN with the limits as the reason.
 pub data IsEqualCertificate (l : Limits) (x y : LocalRule) : Answer → Type 0 where
   equal_yes : {n m : ℕ} {steps others : List Step} → IsYes l x (breaks y) n steps → IsYes l y (breaks x) m others → IsEqualCertificate l x y (answer.YesBoth n m steps others)
   left_no : {along : List ℕ} {shear : ℕ} {symbols : List ℕ} → IsNo l x (breaks y) along shear symbols → IsEqualCertificate l x y (answer.No side.Left along shear symbols)
   right_no : {along : List ℕ} {shear : ℕ} {symbols : List ℕ} → IsNo l y (breaks x) along shear symbols → IsEqualCertificate l x y (answer.No side.Right along shear symbols)
   equal_unknown : IsEqualCertificate l x y (answer.Unknown reason.Limits)
 
--- A conjugacy question is the four box questions of `ConjugacyOf`. A certificate is one of three answers: CONJUGATE with a YES to each of these
--- questions; BROKEN with the number of one of them and a NO to it; or UNKNOWN with the limits as the reason.
+-- A conjugacy question comes down to the four box questions of `ConjugacyOf`. A certificate is one of three answers: CONJUGATE with a YES to each of
+-- these questions; BROKEN with the number of one of them and a NO to it; or UNKNOWN with the limits as the reason.
 pub data IsConjugacyCertificate (l : Limits) (c : ConjugacyOf) : Answer → Type 0 where
   conjugate : {n1 n2 n3 n4 : ℕ} {s1 s2 s3 s4 : List Step} → IsYes l c.from c.image n1 s1 → IsYes l c.to c.image_back n2 s2 → IsYes l c.from c.round n3 s3 →
       IsYes l c.to c.round_back n4 s4 → IsConjugacyCertificate l c (answer.Conjugate (n1 ∷ n2 ∷ n3 ∷ n4 ∷ []) (s1 ∷ s2 ∷ s3 ∷ s4 ∷ []))

@@ -14,7 +14,7 @@ use Rattle.dd_evidence.specs.{Cells.written_cell, Tiles.given_tile, Lists.listed
 use Rattle.dd_certificate.specs.declared.answer.Side.TheVariants as side
 use Rattle.dd_certificate.specs.declared.answer.Answer.TheVariants as answer
 
--- the rule is false at the cell that this place names; a place is the coordinates of a position, and then a node
+-- the rule is false at the cell that this place names; a place lists the coordinates of a position, and then a node
 abbrev pub IsFalseAt : LocalRule → Tile → List ℤ → Type 0
 IsFalseAt x t place = (c : Cell) × (place ≡ written_cell x.dimension c) × (is_true x c (tile_look t) ≡ false)
 

@@ -21,7 +21,7 @@ use dd_question::Conjugacy;
 use dd_values::{Items, Limits};
 use std::alloc::{AllocError, Global};
 
-/// The number of box questions that make up a conjugacy.
+/// The number of box questions that a conjugacy question comes down to.
 const PARTS: usize = 4;
 
 /// Whether the radius and the steps with index `at` certify a YES to the box question. If so, an output can hold the steps.

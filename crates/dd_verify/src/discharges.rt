@@ -4,9 +4,9 @@
 //! two conditions. It is at most the number of nodes times the greatest weight. In each admissible filling of a finite region,
 //! the origin holds at least this number in the end. (Then each position of a configuration of allowed symbols that obeys the
 //! rule holds at least this number in the end, too.) The region consists of the boxes of this radius around the origin and
-//! around the positions that give to it. The margin says by how much the region is enlarged in every direction. A bound is the
-//! best if no other amounts give a greater bound. A certificate has the bound, the amounts, and duals: factors for the rows of
-//! a linear program, which show that the bound is the best. The program is made from the fillings of the region.
+//! around the positions that give to it, enlarged by the margin in every direction. A bound is the best if no other amounts
+//! give a greater bound. A certificate has the bound, the amounts, and duals: factors for the rows of a linear program, which
+//! show that the bound is the best. The program is made from the fillings of the region.
 ghost use Rattle.std.specs.Prelude.{◌≡◌, ◌↔◌, ◌⊎◌, IsTrue, IfOk};
 ghost use Rattle.dd_certificate.specs.declared.answer.Answer.TheVariants as answer;
 ghost use Rattle.dd_certificate.specs.Bounds.{IsWritable};

@@ -76,9 +76,9 @@ pub fn claims_hold(question: &CheckedQuestion)
     }
 }
 
-/// Does nothing. Its contract says that the claim of each certificate is true, for every box question and every conjugacy that
-/// is sound and for which `HaveGoalFacts` holds. A question is sound if its parts fit together and it exceeds no limit on its
-/// work. Unlike `claims_hold`, the function takes no question.
+/// Does nothing. Its contract says that the claim of each certificate is true, for every sound box question and every sound
+/// conjugacy question for which `HaveGoalFacts` holds. A question is sound if its parts fit together and it exceeds no limit on
+/// its work. Unlike `claims_hold`, the function takes no question.
 pub fn claims_hold_for_goals()
     ensures { (l : AnyLimits) (k : Asked) (answer : AnyAnswer) → IsSoundAsked l k → HaveGoalFacts k → IsCertificateOf l k answer → ClaimOf k answer }
 {}

@@ -1,9 +1,9 @@
 //! Checks answers to questions about rules. A certificate is an answer with all that is needed to check it without a search.
-//! The specs say which answers are certificates, and what a certificate claims. The check makes no search for an answer, and
-//! trusts no search that was made. To check some kinds of answers, it enumerates fillings of finitely many cells: for instance,
-//! it makes its own list of the patterns that a rule forbids, and compares the answer's list with it. The check accepts an
-//! answer exactly when the answer is a certificate and an output can hold it. An output can hold an answer if the answer's
-//! numbers and lists are within the bounds that `dd_certificate` states.
+//! The specs say which answers are certificates, and what a certificate claims. The check doesn't search for an answer, and it
+//! doesn't rely on the search that found one. To check some kinds of answers, it enumerates fillings of finitely many cells:
+//! for instance, it makes its own list of the patterns that a rule forbids, and compares the answer's list with it. The check
+//! accepts an answer exactly when the answer is a certificate and an output can hold it. An output can hold an answer if the
+//! answer's numbers and lists are within the bounds that `dd_certificate` states.
 //!
 //! Each position of Z^d has one or more nodes. A cell is a position together with one of its nodes. A configuration gives a
 //! symbol to each cell. A rule is a formula about a cell and the cells near it. The rule reads the cells whose symbols the
@@ -24,15 +24,14 @@
 //! configuration that obeys the premise has the goal at any position. (The configurations of box questions have allowed
 //! symbols.)
 //!
-//! The box of radius n round the origin consists of the positions whose coordinates are from -n to n. A filling gives each
-//! cell of a box, or of another region, a symbol that the cell's node allows. It is admissible if the rule (in a box question:
-//! the premise) is true at each of its cells at which all cells that the rule reads have symbols. A certificate for YES has a
-//! radius, and the steps of a refutation. The steps derive the empty clause from the clauses that ask for an admissible
-//! filling of the box of this radius with the goal at the origin. So they show that there is no such filling. A certificate
-//! for NO has a periodic configuration of allowed symbols that lives in the premise's subshift and has the goal at the origin.
-//! The question's limits bound the periods. They also bound the radius, unless only a larger box has all cells that the goal
-//! reads at the origin. The answer UNKNOWN to a box question claims nothing. It is a certificate if its reason is that the
-//! limits were reached.
+//! The box of radius n round the origin consists of the positions whose coordinates are from -n to n. A filling gives each cell
+//! of a box, or of another region, a symbol that the cell's node allows. It is admissible if the rule (in a box question: the
+//! premise) is true at each of its cells where the rule reads only cells with symbols. A certificate for YES has a radius, and
+//! the steps of a refutation. The steps derive the empty clause from the clauses that ask for an admissible filling of the box
+//! of this radius with the goal at the origin. So they show that there is no such filling. A certificate for NO has a periodic
+//! configuration of allowed symbols that lives in the premise's subshift and has the goal at the origin. The question's limits
+//! bound the periods. They also bound the radius, unless only a larger box has all cells that the goal reads at the origin. The
+//! answer UNKNOWN to a box question claims nothing. It is a certificate if its reason is that the limits were reached.
 #![tactic(auto)]
 
 mod answering;

@@ -65,7 +65,7 @@ forked bound f g = record {
   least = 48 ∷ 10 ∷ f.least;
 }
 
--- The rows of a table, each with the byte with which its texts begin. Bytes that begin with none of the other rows' bytes go to the last row.
+-- The rows of a table, each with the byte with which its texts begin. Input that begins with no other row's byte goes to the last row.
 abbrev pub table : {A : Type 0} → ℕ × Form A → List (ℕ × Form A) → Form A
 table row [] = row.1
 table row (next ∷ rows) = either row.0 row.1 (table next rows)

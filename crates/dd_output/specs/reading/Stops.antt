@@ -1,6 +1,6 @@
 -- Readers. A reader takes bytes to the value with which they begin and the bytes after it, or else to the place where reading stops. The comment on a
--- reader names what it reads. The least text of a reader is a text that it reads, though not always the shortest. If reading stops before the reader
--- begins, this text is missing.
+-- reader names what it reads. A reader may come with a least text: one fixed text that it reads, not always the shortest. If reading stops before the
+-- reader begins, this text is missing.
 use Rattle.std.specs.Prelude.{◌≡◌, ℕ, zero, suc, ◌+◌, ◌*◌, ◌-◌, List, [], ◌∷◌, ◌++◌, length, take, drop, Result, Ok, Err, Bool, false, cond, ◌&&◌, ◌||◌, nat_lt, nat_le, ◌==◌, replicate}
 use Rattle.dd_output.specs.declared.fault.ReadFault.{ReadFault}
 use Rattle.dd_output.specs.declared.fault.ReadFault.TheVariants as faults

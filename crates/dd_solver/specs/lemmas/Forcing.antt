@@ -20,7 +20,7 @@ in_right xs ys x h = rw (list_any-append (same_literal x) xs ys) (or_right _ _ h
 pub in_cases : (xs ys : List Literal) (x : Literal) → In (xs ++ ys) x → (In xs x) ⊎ (In ys x)
 in_cases xs ys x h = or_cases _ _ (rw (list_any-append (same_literal x) xs ys) at h)
 
--- a literal x in the list whose only literal is y is y itself
+-- if a literal x is in the list whose only literal is y, then x is y
 pub in_one : (x y : Literal) → In (y ∷ []) x → x ≡ y
 in_one x y h = elim (or_cases (same_literal x y) false h) [ inl a ↦ same_literal-eq x y a | inr a ↦ absurd (false≢true a) ]
 
@@ -46,7 +46,7 @@ not_open p c d (Forced l) e n h =
     forced_from p c l (record { member = e l ∙ f.member; others = λ x i. f.others x (sym (e x) ∙ i); not_false = f.not_false; not_true = f.not_true })
 not_open p c d Open e n h = absurd (n refl)
 
--- two clauses with the same literals say the same
+-- two clauses with the same literals have the same `finding`
 pub same_finding : (p : Literal → Bool) (c d : List Literal) → ((x : Literal) → is_among c x ≡ is_among d x) → finding p c ≡ finding p d
 same_finding p c d e = go (finding p c) (finding p d) refl refl
   where

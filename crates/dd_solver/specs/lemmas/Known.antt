@@ -91,8 +91,7 @@ length-all (c ∷ cs) = ap suc (length-all cs)
 pub before-more : (cs : List (List Literal)) (steps : List Step) (s : Step) → clauses_before cs (steps ++ s ∷ []) ≡ clauses_before cs steps ++ s.clause ∷ []
 before-more cs steps s = ap (λ (ys : List (List Literal)). cs ++ ys) (map-append (λ x. x.clause) steps (s ∷ [])) ∙ sym (append_assoc cs (map (λ x. x.clause) steps) (s.clause ∷ []))
 
--- if each value in the list that says which clauses are alive is true, all clauses are known; the list of these values may be longer than the list of
--- clauses
+-- if all clauses are marked as alive, all are known; there may be more marks than clauses
 pub all_alive : (cs : List (List Literal)) (n : ℕ) → length cs ≤ n → known_of cs (replicate n true) ≡ all_known cs
 all_alive [] n h = refl
 all_alive (c ∷ cs) zero h = absurd (omega arith)

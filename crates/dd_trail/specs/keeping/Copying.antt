@@ -34,7 +34,7 @@ pub record StopsAt (denied : List Bool) (codes : List Code) (first end : ℕ) : 
   pub mark : code_at codes end ≡ 0
   pub rest : AreDenied denied codes (first + 2) end
 
--- if a look at the clause with its first literal at `first` ends with `AllFalse`, the clause is a stop
+-- if a look at the clause whose first literal is at `first` ends with `AllFalse`, the clause is a stop
 abbrev pub FindsStop : List Bool → List Code → ℕ → Look → Type 0
 FindsStop denied codes first (Stays other) = ⊤
 FindsStop denied codes first (Moves next other) = ⊤
