@@ -5,7 +5,7 @@ use Rattle.dd_certificate.specs.declared.answer.Answer.{Answer}
 use Rattle.dd_engines.specs.Rounds.{Seen}
 use Rattle.dd_query.specs.declared.queries.Query.{Query}
 use Rattle.dd_question.specs.Questions.{Asked, IsSoundAsked}
-use Rattle.dd_respond.specs.{Asking.IsBoxQuestion, Asking.Engages, Laws.SayTheSame, Right.IsRightTo}
+use Rattle.dd_respond.specs.{Asking.ComesDownToBoxes, Asking.Engages, Laws.SayTheSame, Right.IsRightTo}
 use Rattle.dd_script.specs.{Asking.AreSound, Parts.Parts, Questions.asked}
 use Rattle.dd_values.specs.declared.limits.Limits.{Limits}
 use Rattle.dd_answer.specs.{Asking.AsksBoxes, Right.Right}
@@ -16,8 +16,8 @@ module _ (s : Parts) (q : Query) (k : Asked) (asks : asked s q ≡ Some k) where
       subst (λ (o : Option Asked). IsSomeAnd o (λ j. IsRightTo s.known.limits j a)) (sym asks) (subst (λ (m : Limits). IsRightTo m k a) limits right)
 
   -- if the roster changed as it should for the question, it changed as it should for the query
-  pub engages_for : (before after : List Seen) → Engages (IsBoxQuestion k) before after → Engages (AsksBoxes s q) before after
-  engages_for before after told = subst (λ (o : Option Asked). Engages (IsSomeAnd o IsBoxQuestion) before after) (sym asks) told
+  pub engages_for : (before after : List Seen) → Engages (ComesDownToBoxes k) before after → Engages (AsksBoxes s q) before after
+  engages_for before after told = subst (λ (o : Option Asked). Engages (IsSomeAnd o ComesDownToBoxes) before after) (sym asks) told
 
 -- two facts about the item of an option are facts about the same item
 both_of_one : {X : Type 0} (o : Option X) (P Q : X → Type 0) (G : Type 0) → IsSomeAnd o P → IsSomeAnd o Q → ((x : X) → o ≡ Some x → P x → Q x → G) → G

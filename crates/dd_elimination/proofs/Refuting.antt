@@ -11,7 +11,7 @@ use Rattle.dd_values.specs.lemmas.Booleans.{lt_yes, lt_no}
 use Rattle.dd_solver.specs.searching.{Marking.kept_step, Search.all_known, Search.after_step, Search.known_through, Search.is_derived}
 use Rattle.dd_solver.specs.lemmas.{Forcing.same_finding, Known.Known, Known.at, Known.length-all, Known.all_alive, Steps.refutes_after}
 use Rattle.dd_solver.specs.lemmas.Renumbering.{SaysTheSame, Agree, refutes_renamed}
-use Rattle.dd_elimination.specs.Reductions.{new_number, whole_step, HaveSameLiterals, IsNamed, AreNamed, IsReduction}
+use Rattle.dd_elimination.specs.Reductions.{new_number, whole_step, HaveSameLiterals, HasNumber, HaveNumbers, IsReduction}
 use Rattle.dd_elimination.specs.Renaming.{new_name, renamed, renamed_step}
 use Rattle.dd_elimination.proofs.{Renaming.refutes_renaming, Names.is_renaming}
 
@@ -48,25 +48,25 @@ numbered [] k c e = absurd (cc)
 numbered (x ∷ cs) zero c e = (omega arith, cc)
 numbered (x ∷ cs) (suc k) c e = let r = numbered cs k c e in (omega (arith, r.0), r.1)
 
-named_says : (known : Known) (number : ℕ) (c : List Literal) → IsNamed known number c → SaysTheSame known number c
+named_says : (known : Known) (number : ℕ) (c : List Literal) → HasNumber known number c → SaysTheSame known number c
 named_says known number c h = go (clause_of known number) refl h
   where
     go : (o : Option (List Literal)) → clause_of known number ≡ o → MatchOption o ⊥ (λ d. HaveSameLiterals d c) → SaysTheSame known number c
     go None e h = absurd h
     go (Some d) e h = (d, e, λ p. same_finding p d c h)
 
-agree : (known : Known) (numbers : List ℕ) (reduced : List (List Literal)) (before : ℕ) → AreNamed known numbers reduced → Agree (λ _. true) (new_number numbers before) (all_known reduced) known
+agree : (known : Known) (numbers : List ℕ) (reduced : List (List Literal)) (before : ℕ) → HaveNumbers known numbers reduced → Agree (λ _. true) (new_number numbers before) (all_known reduced) known
 agree known numbers reduced before a zero c k e = absurd (cc)
 agree known numbers reduced before a (suc h) c k e =
     let r = numbered reduced h c e in
     let m : suc h ≤ length numbers = omega (arith, a.as_many, r.0) in
     let p : suc h - 1 ≡ h = omega arith in
     let w : new_number numbers before (suc h) ≡ get_or numbers h 0 = rw (lt_no (length numbers) (suc h) m, lt_yes 0 (suc h) (omega arith), p) refl in
-    rw w (named_says known (get_or numbers h 0) c (subst (IsNamed known (get_or numbers h 0)) r.1 (a.named h r.0)))
+    rw w (named_says known (get_or numbers h 0) c (subst (HasNumber known (get_or numbers h 0)) r.1 (a.named h r.0)))
 
 -- if each clause of a list has the same literals as the known clause with its number, and some steps refute this list, then the steps of the
 -- elimination, followed by these steps with new numbers in their hints, refute the whole list
-named_refutes : (n : ℕ) (clauses : List (List Literal)) (steps : List Step) (reduced : List (List Literal)) (numbers : List ℕ) (found : List Step) → derives n clauses steps ≡ true → AreNamed (all_known (clauses_before clauses steps)) numbers reduced → refutes n reduced found ≡ true → length clauses + (length steps + length found) < 2 ^ 64 → refutes n clauses (steps ++ map (kept_step (new_number numbers (length clauses + length steps))) found) ≡ true
+named_refutes : (n : ℕ) (clauses : List (List Literal)) (steps : List Step) (reduced : List (List Literal)) (numbers : List ℕ) (found : List Step) → derives n clauses steps ≡ true → HaveNumbers (all_known (clauses_before clauses steps)) numbers reduced → refutes n reduced found ≡ true → length clauses + (length steps + length found) < 2 ^ 64 → refutes n clauses (steps ++ map (kept_step (new_number numbers (length clauses + length steps))) found) ≡ true
 named_refutes n clauses steps reduced numbers found d a r few =
     let rename = new_number numbers (length clauses + length steps) in
     let known = all_known (clauses_before clauses steps) in

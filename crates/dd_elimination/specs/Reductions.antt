@@ -19,13 +19,13 @@ abbrev pub HaveSameLiterals : List Literal → List Literal → Type 0
 HaveSameLiterals c d = (l : Literal) → is_among c l ≡ is_among d l
 
 -- there is a clause with this number, and it has the same literals as c
-abbrev pub IsNamed : List (Option (List Literal)) → ℕ → List Literal → Type 0
-IsNamed known number c = MatchOption (clause_of known number) ⊥ (λ d. HaveSameLiterals d c)
+abbrev pub HasNumber : List (Option (List Literal)) → ℕ → List Literal → Type 0
+HasNumber known number c = MatchOption (clause_of known number) ⊥ (λ d. HaveSameLiterals d c)
 
 -- each of the clauses has the same literals as the known clause with its number
-pub record AreNamed (known : List (Option (List Literal))) (numbers : List ℕ) (clauses : List (List Literal)) : Type 0 where
+pub record HaveNumbers (known : List (Option (List Literal))) (numbers : List ℕ) (clauses : List (List Literal)) : Type 0 where
   pub as_many : length numbers ≡ length clauses
-  pub named : (k : ℕ) → k < length clauses → IsNamed known (slice_index_or numbers k 0) (slice_index_or clauses k [])
+  pub named : (k : ℕ) → k < length clauses → HasNumber known (slice_index_or numbers k 0) (slice_index_or clauses k [])
 
 -- The elimination is right. Each of its steps is right, and deletes nothing. Each of the m variables of the reduced list has a name: the number of
 -- the variable of the whole list that it stands for. Each clause of the reduced list comes with the number of a clause of the whole list or of a
@@ -35,7 +35,7 @@ pub record IsReduction (n : ℕ) (clauses : List (List Literal)) (steps : List S
   pub derived : derives n clauses steps ≡ true
   pub as_many : length names ≡ m
   pub are_names : AreNames names n
-  pub named : AreNamed (all_known (clauses_before clauses steps)) numbers (map (map (renamed (new_name names))) reduced)
+  pub named : HaveNumbers (all_known (clauses_before clauses steps)) numbers (map (map (renamed (new_name names))) reduced)
 
 -- The step of the whole list that a step of the reduced list stands for. It has the original literals, and new numbers in its hints.
 abbrev pub whole_step : List ℕ → List ℕ → ℕ → Step → Step

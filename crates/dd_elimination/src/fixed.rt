@@ -26,7 +26,7 @@ pub(crate) struct Remaining {
 #[derive(Drop)]
 struct Sieve<'a> {
     fixed: &'a Fixed,
-    /// The literals that are kept from the clause at hand.
+    /// The literals of the clause at hand that are kept.
     kept: Vec<Literal>,
     /// For each literal, at its code (see `code_of`), the number of the last clause from which it was kept, or 0 if there is
     /// none. The clauses are numbered from 1 as they are sieved.
@@ -226,7 +226,7 @@ impl Fixed {
 }
 
 impl<'a> Sieve<'a> {
-    /// Keeps, each once, those literals of a clause whose variables aren't fixed. Returns false if the clause is to be left out
+    /// Keeps those literals of a clause that have no fixed variable, each once. Returns false if the clause is to be left out
     /// because one of its literals is true, or because it has a literal and its negation.
     fn keep_free(&mut self, literals: &[Literal]) -> Result<bool, AllocError> {
         self.kept.clear();

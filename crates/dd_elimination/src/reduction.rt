@@ -1,13 +1,13 @@
-//! The check of an elimination by resolution. Its steps have to be right, and must not delete anything. The variables of the
-//! reduced list have to stand for different variables of the whole list. Each clause of the reduced list comes with the number
-//! of a clause of the whole list or of a step (see `Reduced` in the file `whole.rt`), and has to stand for a clause that has
-//! the same literals as that one. Then each refutation of the reduced list gives one of the whole list: the steps of the
-//! elimination, followed by the refutation's steps with the variables of the whole list and new numbers in their hints. So only
-//! the elimination is checked, and not the steps of the search, which may be many.
+//! The check of an elimination by resolution. The steps of the elimination have to be right, and must not delete anything. The
+//! variables of the reduced list have to stand for different variables of the whole list. Each clause of the reduced list comes
+//! with the number of a clause of the whole list or of a step (see `Reduced` in the file `whole.rt`), and has to stand for a
+//! clause that has the same literals as that one. Then each refutation of the reduced list gives one of the whole list: the
+//! steps of the elimination, followed by the refutation's steps with the variables of the whole list and new numbers in their
+//! hints. So only the elimination is checked, and not the steps of the search, which may be many.
 ghost use Rattle.std.specs.Prelude.{◌≡◌, true, map, IfOk};
 ghost use Rattle.dd_clause.specs.declared.clause.Literal.{Literal};
 ghost use Rattle.dd_derivation.specs.Derivations as spec;
-ghost use Rattle.dd_elimination.specs.Reductions.{HaveSameLiterals, AreNamed, IsReduction};
+ghost use Rattle.dd_elimination.specs.Reductions.{HaveSameLiterals, HaveNumbers, IsReduction};
 ghost use Rattle.dd_elimination.specs.Renaming.{AreNames, new_name, renamed};
 
 use crate::whole::{Reduced, originals};
@@ -36,14 +36,14 @@ fn have_same_literals(first: &[Literal], second: &[Literal]) -> bool
 }
 
 /// Whether each clause of the reduced list stands for a clause that has the same literals as the known clause with its number.
-fn are_named(
+fn have_numbers(
     alloc: Global,
     known: &Known,
     names: &[u32],
     numbers: &[u64],
     clauses: &[Clause],
 ) -> Result<bool, AllocError>
-    ensures { IfOk result (λ right. right ≡ true → AreNamed known.now numbers.now (map (map (renamed (new_name names.now))) clauses.now)) }
+    ensures { IfOk result (λ right. right ≡ true → HaveNumbers known.now numbers.now (map (map (renamed (new_name names.now))) clauses.now)) }
 {
     if numbers.len() != clauses.len() {
         return Ok(false);
@@ -77,7 +77,7 @@ fn are_names(names: &[u32], most: u32) -> bool
 }
 
 /// Whether the steps of the elimination are right and delete nothing, the variables of the reduced list have names (see
-/// `are_names`), and its clauses have numbers (see `are_named`). This should always be so.
+/// `are_names`), and its clauses have numbers (see `have_numbers`). This should always be so.
 pub(crate) fn is_reduction(
     alloc: Global,
     whole: &Cnf,
@@ -98,5 +98,5 @@ pub(crate) fn is_reduction(
     let alive = vec![in alloc; true; whole.clauses().len() + steps.len()]?;
     let known = Known::new(whole.clauses(), steps, alive.as_slice());
     let numbers = reduced.numbers.as_slice();
-    are_named(alloc, &known, names, numbers, reduced.cnf.clauses())
+    have_numbers(alloc, &known, names, numbers, reduced.cnf.clauses())
 }

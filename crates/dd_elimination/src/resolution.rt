@@ -16,7 +16,7 @@ pub(crate) enum Relation {
     Unrelated,
 }
 
-/// The items from index `start` up to `end`.
+/// The items from index `start` up to, but not including, `end`.
 pub(crate) fn part<T>(items: &[T], start: usize, end: usize) -> &[T] {
     if start <= end && end <= items.len() {
         return &items[start..end];

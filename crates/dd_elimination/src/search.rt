@@ -64,10 +64,11 @@ pub fn solve_propagated(alloc: Global, cnf: &Cnf, style: Style) -> Result<Outcom
     propagated_answer(alloc, cnf, style)
 }
 
-/// Finds an assignment that satisfies the clauses, or steps that refute them. Variables are eliminated by resolution first,
-/// unless there are more than 200,000 clauses, or the squares of their lengths add up to 100,000,000 or more. If there are at
-/// most 200,000 clauses and unit propagation leaves at most half of them, the variables that it fixes are eliminated before
-/// that. On clauses that ask for a configuration whose weight is below a bound, this is faster than `solve` of `dd_solver`.
+/// Finds an assignment that satisfies the clauses, or steps that refute them. If there are at most 200,000 clauses, and unit
+/// propagation falsifies none of them and leaves at most half of them, the variables that it fixes are eliminated first. Then
+/// variables are eliminated by resolution from the clauses at hand, unless there are more than 200,000 of them, or the squares
+/// of their lengths add up to 100,000,000 or more. On clauses that ask for a configuration whose weight is below a bound, this
+/// is faster than `solve` of `dd_solver`.
 ///
 /// # Errors
 /// `AllocError` if memory ran out.

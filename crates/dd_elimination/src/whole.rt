@@ -28,8 +28,7 @@ pub(crate) struct Reduced {
 struct Variables {
     /// Their numbers in the whole list, in ascending order.
     names: Vec<u32>,
-    /// For each variable of the whole list, at the index that is its number, its new number, or 0 if no remaining clause has
-    /// it.
+    /// For each variable of the whole list, by its number, its number in the reduced list, or 0 if no remaining clause has it.
     places: Vec<u32>,
 }
 

@@ -30,8 +30,8 @@ impl Configuration for Lone {
     }
 }
 
-/// Does nothing. Its contract says what a YES means for this configuration. The YES must be a certificate for the query with the
-/// number `query`, counted from 1. The script must have one node, which allows the symbols 0 and 1, and the coordinates of
+/// Does nothing. Its contract says what a YES means for this configuration. The YES must be a certificate for the query with
+/// the number `query`, counted from 1. The script must have one node, which allows the symbols 0 and 1, and the coordinates of
 /// `place` past the script's dimension must be 0. The query asks one box question, or two if it is about an equality. A box
 /// question has a premise, which is a rule, and a goal, which is a property of a position, such as that another rule is broken
 /// there. If the configuration obeys the premise of one of these questions everywhere, the goal of this question doesn't hold

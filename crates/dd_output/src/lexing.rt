@@ -76,8 +76,8 @@ fn starts(low: u64, bound: u64, byte: u8) -> bool
     is_digit(byte) && (low <= u64::from(byte - b'0') && u64::from(byte - b'0') <= bound)
 }
 
-/// The rest of a number whose first digit, `first`, has already been read. Returns the whole number, the byte that ends it, and the
-/// bytes after that. The number is at most `bound`. The byte that ends it is `end` or `other`.
+/// The rest of a number whose first digit, `first`, has already been read. Returns the whole number, the byte that ends it, and
+/// the bytes after that. The number is at most `bound`. The byte that ends it is `end` or `other`.
 fn digits_at(
     bytes: &[u8],
     bound: u64,

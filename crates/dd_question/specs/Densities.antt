@@ -1,6 +1,6 @@
 -- Questions that ask for the least density on a strip: how many states and windows the rule's transfer graph has over the strip. A slice consists of
 -- the strip's cells with one value of x. The vertices of the graph are states. A state is a filling of a fixed number of successive slices, over the
--- whole alphabet. This number depends on how far the rule reads along x. A window is like a state, but has one slice more. Each edge of the graph is
+-- whole alphabet. This number depends on how far the rule reads along x. A window is like a state, but has one more slice. Each edge of the graph is
 -- a window.
 use Rattle.std.specs.Prelude.{ℕ, ◌*◌, ◌||◌, List, Bool, nat_lt, slice_index}
 use Rattle.dd_formula.specs.LocalRule.{LocalRule}

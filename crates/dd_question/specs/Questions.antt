@@ -64,16 +64,16 @@ asked_of (question.Discharge rule radius margin vectors weights) = discharge rul
 
 -- whether the question comes down to one or more box questions; for such a question, engines (see dd_engines) are asked to propose the outcome of
 -- a search
-abbrev pub is_box_question : Asked → Bool
-is_box_question (membership x t) = false
-is_box_question (box x g) = true
-is_box_question (equality x y) = true
-is_box_question (listing x) = false
-is_box_question (minimal x) = false
-is_box_question (conjugacy c) = true
-is_box_question (density x strip ws) = false
-is_box_question (least x along ws) = false
-is_box_question (discharge x radius margin vs ws) = false
+abbrev pub has_box_questions : Asked → Bool
+has_box_questions (membership x t) = false
+has_box_questions (box x g) = true
+has_box_questions (equality x y) = true
+has_box_questions (listing x) = false
+has_box_questions (minimal x) = false
+has_box_questions (conjugacy c) = true
+has_box_questions (density x strip ws) = false
+has_box_questions (least x along ws) = false
+has_box_questions (discharge x radius margin vs ws) = false
 
 -- the parts of the question fit together
 abbrev pub IsFormed : Asked → Type 0

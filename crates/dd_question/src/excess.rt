@@ -12,8 +12,8 @@ pub enum Excess {
     /// the rule forbids at the node are among them.
     Patterns,
     /// The rule's transfer graph over the strip has more than 4,096 states, or there are more than 131,072 windows. A slice
-    /// consists of the strip's cells with one value of x. The vertices of the graph are states. A state is a filling of a
-    /// fixed number of successive slices, over the whole alphabet. This number depends on how far the rule reads along x. A
-    /// window is like a state, but has one slice more. Each edge of the graph is a window.
+    /// consists of the strip's cells with one value of x. The vertices of the graph are states. A state is a filling of a fixed
+    /// number of successive slices, over the whole alphabet. This number depends on how far the rule reads along x. A window is
+    /// like a state, but has one more slice. Each edge of the graph is a window.
     States,
 }

@@ -10,7 +10,7 @@ use dd_counts::{broken_clauses, differ_clauses};
 use dd_formula::{Automaton, Rule};
 use std::alloc::{AllocError, Global};
 
-/// The limit on the number of a question's clauses. An upper bound of this number is compared with the limit.
+/// The limit on the number of a question's clauses. An upper bound for this number is compared with the limit.
 pub const MOST_CLAUSES: u32 = 2_000_000;
 
 /// The measure of a goal.

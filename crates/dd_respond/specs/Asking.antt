@@ -1,11 +1,11 @@
 -- For which questions engines are asked, and how this changes the roster, the list of engines.
 use Rattle.std.specs.Prelude.{◌≡◌, List, IsTrue, Result, OnOk}
 use Rattle.dd_engines.specs.Rounds.{Seen, Kept, FirstAsked}
-use Rattle.dd_question.specs.Questions.{Asked, is_box_question}
+use Rattle.dd_question.specs.Questions.{Asked, has_box_questions}
 
 -- the question comes down to box questions
-abbrev pub IsBoxQuestion : Asked → Type 0
-IsBoxQuestion k = IsTrue (is_box_question k)
+abbrev pub ComesDownToBoxes : Asked → Type 0
+ComesDownToBoxes k = IsTrue (has_box_questions k)
 
 -- The engines before and after a call. If `asks` holds and engines are left, the first of them was asked. All engines that stood ahead of it were
 -- dropped, and none of these was sound. If `asks` doesn't hold, the roster is unchanged.

@@ -3,7 +3,7 @@ ghost use Rattle.std.specs.Prelude.{IfOk, OnOk};
 ghost use Rattle.dd_certificate.specs.Bounds.{IsWritable};
 ghost use Rattle.dd_engines.specs.Rosters.{roster_seen};
 ghost use Rattle.dd_engines.specs.Rounds.{Kept};
-ghost use Rattle.dd_respond.specs.Asking.{IsBoxQuestion, Engages, AreEngaged};
+ghost use Rattle.dd_respond.specs.Asking.{ComesDownToBoxes, Engages, AreEngaged};
 ghost use Rattle.dd_respond.specs.Right.{IsRightTo, IsResponse};
 
 use crate::boxes::{compared, decided};
@@ -28,7 +28,7 @@ fn by_kind<E: Engine>(
     ensures right { IfOk result (IsRightTo question.now.limits question.now.question) }
     ensures writable { IfOk result IsWritable }
     ensures kept { Kept (roster_seen E.asked E.given E.sound roster.old) (roster_seen E.asked E.given E.sound roster.new) }
-    ensures asked { OnOk result (Engages (IsBoxQuestion question.now.question) (roster_seen E.asked E.given E.sound roster.old) (roster_seen E.asked E.given E.sound roster.new)) }
+    ensures asked { OnOk result (Engages (ComesDownToBoxes question.now.question) (roster_seen E.asked E.given E.sound roster.old) (roster_seen E.asked E.given E.sound roster.new)) }
 {
     // Law: a roster whose engines are not asked keeps all of them.
     kept_is_reflexive();
@@ -77,7 +77,7 @@ pub fn respond<E: Engine>(
     roster: &mut Roster<E>,
 ) -> Result<Answer, AllocError>
     ensures answer { IfOk result (IsResponse question.now.limits question.now.question) }
-    ensures engines { AreEngaged (IsBoxQuestion question.now.question) (roster_seen E.asked E.given E.sound roster.old) (roster_seen E.asked E.given E.sound roster.new) result }
+    ensures engines { AreEngaged (ComesDownToBoxes question.now.question) (roster_seen E.asked E.given E.sound roster.old) (roster_seen E.asked E.given E.sound roster.new) result }
 {
     by_kind(alloc, question, roster)
 }

@@ -10,9 +10,9 @@ use Rattle.dd_certificate.specs.Text.{answer_text}
 use Rattle.dd_sample.specs.Sample.{sample_text}
 use Rattle.dd_query.specs.declared.queries.Query.{Query}
 use Rattle.dd_script.specs.{Parts.Parts, Questions.asked, Scripts.Spells}
-use Rattle.dd_question.specs.Questions.{Asked, is_box_question}
+use Rattle.dd_question.specs.Questions.{Asked, has_box_questions}
 use Rattle.dd_answer.specs.Asking.{AsksBoxes, AsksSomeBoxes}
-use Rattle.dd_respond.specs.Asking.{IsBoxQuestion, Engages}
+use Rattle.dd_respond.specs.Asking.{ComesDownToBoxes, Engages}
 use Rattle.dd_session.specs.declared.status.Status.{Status}
 use Rattle.dd_session.specs.declared.status.Status.TheVariants.{Definite, SomeUnknown, Refused, ReadFault, WriteFault, Memory, BadWords, Rejected}
 use Rattle.dd_session.specs.{declared.stream.RunFault.RunFault, Output.header, Sides.Change, Sides.RefusedBy, Sides.status_of}
@@ -28,9 +28,9 @@ asks_or_not s q = cases (asked s q) where
   by_truth true = inl refl
   by_truth false = inr false≢true
 
-  cases : (o : Option Asked) → IsSomeAnd o IsBoxQuestion ⊎ (IsSomeAnd o IsBoxQuestion → ⊥)
+  cases : (o : Option Asked) → IsSomeAnd o ComesDownToBoxes ⊎ (IsSomeAnd o ComesDownToBoxes → ⊥)
   cases None = inr (λ none. none)
-  cases (Some k) = by_truth (is_box_question k)
+  cases (Some k) = by_truth (has_box_questions k)
 
 some_append : (s : Parts) (xs ys : List Query) → AsksSomeBoxes s (xs ++ ys) → AsksSomeBoxes s xs ⊎ AsksSomeBoxes s ys
 some_append s [] ys asks = inr asks
