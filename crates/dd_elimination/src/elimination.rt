@@ -28,7 +28,8 @@ const ROUNDS: usize = 10;
 /// Roughly the greatest number of pairs of literals that are compared. Comparing that many takes about half a second.
 const MOST_WORK: u64 = 100_000_000;
 
-/// A clause of the list or of a step. Its literals are those of `Elimination::literals` from index `start` up to `end`.
+/// A clause of the list or of a step. Its literals are those of `Elimination::literals` from index `start` up to, but not
+/// including, `end`.
 #[derive(Clone, Copy)]
 pub(crate) struct Entry {
     start: usize,
@@ -43,7 +44,7 @@ pub(crate) struct Entry {
 }
 
 /// A variable that was eliminated. The indices of the clauses that contained it (not of those that contained its negation) are
-/// those of `Elimination::replaced` from index `start` up to `end`.
+/// those of `Elimination::replaced` from index `start` up to, but not including, `end`.
 #[derive(Clone, Copy)]
 pub(crate) struct Eliminated {
     pub variable: u32,
