@@ -102,9 +102,9 @@ pub enum Command {
         outer: Word,
         inner: Word,
     },
-    /// `conf name [period ..] [shear ..] symbol ..`: a periodic configuration. The second vector, the shear, may be left out.
-    /// Here a vector may have any number of entries. Neither vector has a negative number. The symbols are those of the box
-    /// that repeats, in cell order: by z, then y, then x, then the node.
+    /// `conf name [period ..] [shear ..] symbol ..`: a periodic configuration. The second vector, which gives the shear, may be
+    /// left out. Here a vector may have any number of entries. Neither vector has a negative number. The symbols are those of
+    /// the box that repeats, in cell order: by z, then y, then x, then the node.
     Configuration {
         name: Word,
         periods: Vector,

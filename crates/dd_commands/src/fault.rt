@@ -10,7 +10,7 @@ use thiserror::Error;
 pub enum SyntaxFault {
     /// The number, from 1, of the first command that is not well formed. Such a command doesn't follow the grammar, or its
     /// stage is too low for its place. The number is 0 if some token stands before the first `%`.
-    #[error("command {command} is not well formed")]
+    #[error("command {command}: not well formed")]
     At { command: u32 },
     /// Memory ran out.
     #[error("out of memory")]

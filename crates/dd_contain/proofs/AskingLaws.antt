@@ -28,7 +28,8 @@ same_so_far all = inl refl
 pub asked_since : (before after : List Seen) → FirstAsked before after → AskedOrSame before after
 asked_since before after asked = inr asked
 
--- after one request, and then perhaps more, the first engine that is left, if there is one, was asked; `earlier` is the law `first_asked_earlier`
+-- after one request, and then perhaps more, the first engine that is left, if there is one, has been asked; `earlier` is the law
+-- `first_asked_earlier`
 pub asked_still : ((before between after : List Seen) → Kept before between → FirstAsked between after → FirstAsked before after)
     → (a b c : List Seen) → Kept a b → FirstAsked a b → AskedOrSame b c → FirstAsked a c
 asked_still earlier a b c kept asked (inl same) = subst (FirstAsked a) (sym same) asked

@@ -16,7 +16,7 @@ use dd_pattern::Periodic;
 use dd_values::Limits;
 use std::alloc::{AllocError, Global};
 
-/// Which of the two rules is the premise of a question.
+/// One half of the question about the equality of two rules, named by the rule that is its premise.
 #[derive(Debug, Clone, Copy, PartialEq, Eq)]
 pub enum Half {
     /// The first rule.
@@ -37,7 +37,7 @@ pub enum Equality {
     Unknown,
 }
 
-/// Joins the answers to the two questions, as the list at `decide_equal` says.
+/// Joins the answers to the two questions, as described at `decide_equal`.
 fn joined(left: Decision, right: Decision) -> Equality
     ensures { result ≡ joined left right }
 {

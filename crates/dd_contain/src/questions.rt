@@ -149,8 +149,8 @@ impl<'a> Questions for BoxQuestion<'a> {
 /// decides. So engines affect only how long the search takes, which steps a YES has, and which configuration of the first
 /// periods a NO has. An engine that takes too much memory may prevent a decision.
 ///
-/// Each sound engine stays in the roster, in order. On success, if engines are left, the first of them was asked. All engines
-/// that stood ahead of it were dropped, and none of these was sound.
+/// All sound engines stay in the roster, in the same order. On success, if engines are left, the first of them was asked. All
+/// engines that stood ahead of it were dropped, and none of these was sound.
 ///
 /// # Errors
 /// `AllocError` if memory ran out.

@@ -7,7 +7,7 @@ use Rattle.dd_counts.specs.Rules.{slice_fillings}
 use Rattle.dd_strip.specs.{declared.strip.Strip.Strip, Strips.positions}
 use Rattle.dd_transfer.specs.Graphs.{Transfer, IsTransfer, next_of, weight_at}
 use Rattle.dd_transfer.specs.Transfers.{IsGraphOf, slice_weight}
-use Rattle.dd_transfer.specs.Certificates.{IsWalk, IsClosedWalk, IsInLowestTerms, walk_weight, IsDensityCertificate, IsEmptyCertificate, AreStripPotentials as RisesAlong, potential_of}
+use Rattle.dd_transfer.specs.Certificates.{IsWalk, IsClosedWalk, IsInLowestTerms, walk_weight, IsDensityCertificate, IsEmptinessCertificate, AreStripPotentials as RisesAlong, potential_of}
 use Rattle.dd_meancycle.specs.Means.{IsPath, IsCycle, ArePotentials, weight_of}
 use Rattle.dd_meancycle.specs.lemmas.StepLaws.{last_slice, weight_small, step}
 use Rattle.dd_density.specs.graphs.Shown.{IsShown, AreFalling}
@@ -82,13 +82,13 @@ shown_of r s weights g p q ws ps is c = record {
   potentials = potentials_of r s weights g c.m c.l ps is c.potentials;
 }
 
-pub empty_of : (r : LocalRule) (s : Strip) (weights : List ℕ) (g : Transfer) (ranks : List ℕ) → IsGraphOf r s weights g → AreFalling g ranks → IsEmptyCertificate r s ranks
+pub empty_of : (r : LocalRule) (s : Strip) (weights : List ℕ) (g : Transfer) (ranks : List ℕ) → IsGraphOf r s weights g → AreFalling g ranks → IsEmptinessCertificate r s ranks
 empty_of r s weights g ranks is given = record {
   each = given.each ∙ is.states_are;
   fall = λ u t v edge. given.fall u t v ((is.edges u t v).1 edge);
 }
 
-pub fallen_of : (r : LocalRule) (s : Strip) (weights : List ℕ) (g : Transfer) (ranks : List ℕ) → IsGraphOf r s weights g → IsEmptyCertificate r s ranks → AreFalling g ranks
+pub fallen_of : (r : LocalRule) (s : Strip) (weights : List ℕ) (g : Transfer) (ranks : List ℕ) → IsGraphOf r s weights g → IsEmptinessCertificate r s ranks → AreFalling g ranks
 fallen_of r s weights g ranks is c = record {
   each = c.each ∙ sym is.states_are;
   fall = λ u t v h. c.fall u t v ((is.edges u t v).0 h);

@@ -5,14 +5,14 @@ use Rattle.dd_values.specs.Bounds.{most_number}
 use Rattle.dd_formula.specs.LocalRule.{LocalRule}
 use Rattle.dd_counts.specs.Rules.{states}
 use Rattle.dd_strip.specs.{declared.strip.Strip.Strip, Strips.positions}
-use Rattle.dd_transfer.specs.Certificates.{IsDensityCertificate, IsEmptyCertificate}
+use Rattle.dd_transfer.specs.Certificates.{IsDensityCertificate, IsEmptinessCertificate}
 use Rattle.dd_density.specs.declared.answer.Density.{Density}
 use Rattle.dd_density.specs.declared.answer.Density.TheVariants.{Least, Empty}
 
 -- the answer has a certificate for its density, or a certificate that no configuration lives on the strip
 abbrev pub IsCertifiedDensity : LocalRule → Strip → List ℕ → Density → Type 0
 IsCertifiedDensity r s weights (Least p q walk ps) = IsDensityCertificate r s weights p q walk ps
-IsCertifiedDensity r s weights (Empty ranks) = IsEmptyCertificate r s ranks
+IsCertifiedDensity r s weights (Empty ranks) = IsEmptinessCertificate r s ranks
 
 -- each number is small enough for an output, and the walk has at most as many states as the transfer graph
 pub record IsSmallLeast (r : LocalRule) (s : Strip) (p q : ℕ) (walk : List ℕ) (ps : List ℤ) : Type 0 where

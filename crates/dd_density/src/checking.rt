@@ -1,7 +1,7 @@
 //! The checks of the certificates for the least density of a strip.
 ghost use Rattle.std.specs.Prelude.{◌↔◌, IsTrue, IfOk};
 ghost use Rattle.dd_strip.specs.Strips.{IsStrip, HasWeights, IsFew, strip_for};
-ghost use Rattle.dd_transfer.specs.Certificates.{IsDensityCertificate, IsEmptyCertificate};
+ghost use Rattle.dd_transfer.specs.Certificates.{IsDensityCertificate, IsEmptinessCertificate};
 
 use crate::claims::{are_ranks, is_shown};
 use crate::strips::{graph_of, no_weights};
@@ -47,7 +47,7 @@ pub fn check_empty(
 ) -> Result<bool, AllocError>
     requires strip { IsStrip rule.now strip }
     requires few { IsFew rule.now (strip_for rule.now strip) }
-    ensures { IfOk result (λ b. IsTrue b ↔ IsEmptyCertificate rule.now (strip_for rule.now strip) ranks.now) }
+    ensures { IfOk result (λ b. IsTrue b ↔ IsEmptinessCertificate rule.now (strip_for rule.now strip) ranks.now) }
 {
     let weights = no_weights(alloc, rule)?;
     let graph = graph_of(alloc, rule, strip, weights.as_slice())?;

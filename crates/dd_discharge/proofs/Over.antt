@@ -128,7 +128,7 @@ over_at_most c n m a b z p q h =
 pub over_same : (c : ℕ) (n m : ℤ) (a : Exact) → IsOver c n a → IsOver c m a → n ≡ m
 over_same c n m a p q = cancel n m (den_of a) (den_above a) (sym p.cross ∙ q.cross)
 
--- ---- the numerator of a fraction of at least 0 whose denominator divides c
+-- ---- the numerator of a nonnegative fraction whose denominator divides c
 numerator_at : (z : ℤ) (c d : ℕ) → pos 0 ≤ℤ z → c / d * d ≡ c → z *ℤ pos c ≡ pos (unsigned_abs z * (c / d)) *ℤ pos d
 numerator_at (pos n) c d p e = ap pos (ap (λ (t : ℕ). n * t) (sym e) ∙ three n (c / d) d)
   where

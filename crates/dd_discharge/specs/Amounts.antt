@@ -1,6 +1,6 @@
--- What certifies a bound, in whole numbers over a common denominator. Column 0 of a program stands for a number such that each position holds at
--- least this number. Each other column stands for an amount that positions give. The duals are factors for the rows; they show that no other amounts
--- meet the rows with more in column 0.
+-- What certifies a bound, in whole numbers over a common denominator. Column 0 of a program stands for a number c; each position holds at least c.
+-- Each other column stands for an amount that positions give. The duals are factors for the rows; they show that no other amounts meet the rows with
+-- more in column 0.
 use Rattle.std.specs.Prelude.{ℕ, zero, suc, ◌+◌, ◌*◌, ◌/◌, ◌%◌, ◌<◌, ◌≤◌, ◌≡◌, ℤ, pos, ◌+ℤ◌, ◌*ℤ◌, ◌≤ℤ◌, List, [], length, slice_index, slice_index_or}
 use Rattle.dd_fraction.specs.Exact.{IsLowest}
 use Rattle.dd_rows.specs.declared.rows.Row.{Row}

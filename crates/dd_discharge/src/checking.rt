@@ -16,8 +16,8 @@ use std::alloc::{AllocError, Global};
 ///
 /// - The rule's program is within its limits.
 /// - The bound is in lowest terms, and its denominator divides the common denominator, which is at least 1.
-/// - There is an amount for each column of the program after the first. The bound and the amounts meet the rows, so each
-///   position holds at least the bound in the end.
+/// - There is an amount for each column of the program but the first. The bound and the amounts meet the rows, so each position
+///   holds at least the bound in the end.
 /// - There is a dual for each row. In each column, take the sum, over the rows, of dual times coefficient. It is at least 1 in
 ///   column 0, and at least 0 in all other columns.
 /// - The duals are worth exactly the bound, so no amounts do better.

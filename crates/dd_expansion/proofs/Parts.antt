@@ -80,8 +80,8 @@ pub paid_more : {X : Type 0} (cost : X → ℕ) (xs : List X) (i : ℕ) (x : X) 
     now + sum_by cost (take (i + 1) xs) ≡ first
 paid_more cost xs i x left now first within is before one = omega (arith, sum_by_more cost xs i x within, ap cost is, before, one)
 
--- if what is left of the budget doesn't pay for one more value, all values together cost more than the budget was before the first of them.
--- `few_for_all`: suppose that one instance was paid before the values, for the conjunction or disjunction that joins them. Then the budget before
+-- if what is left of the budget doesn't pay for one more value, all values together cost more than the budget held before the first of them.
+-- `few_for_all`: suppose that one instance was paid for before the values: the conjunction or disjunction that joins them. Then the budget before
 -- this payment was less than the cost of all values plus 1
 pub few_at : {X : Type 0} (cost : X → ℕ) (xs : List X) (i : ℕ) (x : X) (left first : ℕ) → i < length xs → x ≡ get_or xs i x → left + sum_by cost (take i xs) ≡ first → left < cost x → first < sum_by cost xs
 few_at cost xs i x left first within is paid few = omega (arith, sum_by_more_le cost xs i x within, ap cost is, paid, few)

@@ -40,7 +40,7 @@ step_few (Expanded-F.And es) = omega (arith, parts_few es)
 step_few (Expanded-F.Or es) = omega (arith, parts_few es)
 step_few (Expanded-F.Iff e f) = omega (arith, e.1, f.1)
 
--- an expansion has fewer clauses than four times its instances
+-- an expansion has fewer than four times as many clauses as instances
 pub clauses_few : (e : Expanded) → clause_count e + 1 ≤ 4 * instances e
 clauses_few = ind-Expanded HasFew (λ x y is.
     rw (fold-roll-Expanded ℕ clause_count_step x, fold-roll-Expanded ℕ instances_step x, ← is) (step_few y))

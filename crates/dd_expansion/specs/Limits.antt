@@ -75,7 +75,7 @@ depth_step (Formula-F.Iff f g) = 1 + max f g
 depth_step (Formula-F.ForAll bs f) = 1 + f
 depth_step (Formula-F.Exists bs f) = 1 + f
 
--- how deep connectives and quantifiers are nested. A conjunction or disjunction with fewer than two parts doesn't count
+-- how deeply connectives and quantifiers are nested. A conjunction or disjunction with fewer than two parts doesn't count
 abbrev pub depth : Formula → ℕ
 depth = fold-Formula ℕ depth_step
 

@@ -42,7 +42,7 @@ fn leaf(symbol: u32, cell: Cell, budget: &mut u32) -> Result<Expanded, Expansion
     Ok(Expanded::Leaf { cell, symbol })
 }
 
-/// The negation of a part. It takes one instance from the budget: the instances of the part have already been taken.
+/// The negation of a part. It takes only one instance from the budget, because those of the part have already been taken.
 pub(crate) fn negated(
     alloc: Global,
     part: Expanded,
@@ -118,8 +118,8 @@ fn both_have(
     Ok(Expanded::And(parts))
 }
 
-/// The disjunction over all symbols that says that the two cells have the same symbol. The disjunction itself takes one
-/// instance from the budget, and each symbol takes three: a conjunction and its two leaves.
+/// The disjunction that says that the two cells have the same symbol, with one part for each symbol of the alphabet. The
+/// disjunction itself takes one instance from the budget, and each symbol takes three: a conjunction and its two leaves.
 fn equal_at(
     alloc: Global,
     symbols: u32,

@@ -1,5 +1,6 @@
 //! The faults of terms, of atoms, and of quantifiers without their bodies. A term is a variable with moves, such as `o.rt`. A
-//! move is the label of the edge that it follows. An atom is a formula that has no formulas as parts, such as `o.rt=1`.
+//! move is written as the label of the edge that it follows. An atom is a formula that has no formulas as parts, such as
+//! `o.rt=1`.
 ghost use Rattle.std.specs.Prelude.{◌≡◌};
 ghost use Rattle.dd_faults.specs.Order.{noted};
 ghost use Rattle.dd_faults.specs.Formulas.{unknown_label, term_faults, names_symbol, side_faults, atom_faults, ball_faults, quantifier_faults};

@@ -68,8 +68,8 @@ pub enum Limit {
 /// What is wrong with a well-formed command.
 #[derive(Clone, Copy, Debug, PartialEq, Eq)]
 pub enum Fault {
-    /// A name doesn't refer to anything of the kind that is required there. In a configuration, a symbol that the node of its
-    /// cell doesn't allow counts as unknown too.
+    /// A name doesn't refer to anything of the required kind. In a configuration, a symbol that the node of its cell doesn't
+    /// allow counts as unknown too.
     Unknown(Name),
     /// A name is given a second time where it may be given only once.
     Twice(Name),

@@ -1,4 +1,4 @@
--- Cells: a position, in range or not, and the number of a node.
+-- Cells: a cell is a position, in range or not, and the number of a node.
 use Rattle.std.specs.Prelude.{ℕ}
 use Rattle.dd_lattice.specs.{Place.Place, Place.moved, declared.position.Cell.Cell}
 

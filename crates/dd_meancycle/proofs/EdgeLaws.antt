@@ -14,7 +14,7 @@ use Rattle.dd_meancycle.specs.Means.{IsPath, IsCycle, IsMeanOf, ArePotentials, A
 use Rattle.dd_meancycle.specs.table.Levels.{IsEdgeOf}
 use Rattle.dd_meancycle.specs.table.Walks.{IsWalk, AreAmong, edges_weight as edges_weight, natural_potential as natural}
 use Rattle.dd_meancycle.specs.table.Lists.{edge_at, AreEdgesTo, AreEdges, IsInStates}
-use Rattle.dd_meancycle.specs.table.LeastMean.{IsMean, IsLeastMean, IsSmallMean}
+use Rattle.dd_meancycle.specs.table.LeastMean.{IsMean, IsLeastMean, HasSmallPotentials}
 use Rattle.dd_meancycle.specs.lemmas.StepLaws.{step, last_slice, below_states, weight_small}
 use Rattle.dd_meancycle.specs.declared.table.EdgeMean.TheVariants as edge_mean
 
@@ -168,7 +168,7 @@ most_small g edges m l cycle ps well are is =
     numerator_small g.states (edges_weight cycle) m l (length cycle) is.turns is.mean (walk_light g.states edges cycle (all_fit g edges well are) is.among) is.length_most well.few
 
 -- each potential is at most 2^40
-pub small_mean : (g : Transfer) (edges : List Edge) (m : EdgeMean) → IsTransfer g → AreEdges g edges → IsMean edges g.states m → IsSmallMean m
+pub small_mean : (g : Transfer) (edges : List Edge) (m : EdgeMean) → IsTransfer g → AreEdges g edges → IsMean edges g.states m → HasSmallPotentials m
 small_mean g edges (edge_mean.Least m l cycle ps) well are is = λ k d lt.
     let small : natural ps.items k ≤ m * g.states = is.bounded k (omega (arith, is.len)) in
     let most = most_small g edges m l cycle.items ps.items well are is in

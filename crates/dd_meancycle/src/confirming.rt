@@ -99,7 +99,7 @@ fn are_bounded(potentials: &[i64]) -> bool
 /// The mean of the cycle in lowest terms, if the potentials show that no cycle has a smaller mean. Returns `None` in these
 /// cases:
 /// - The list of states doesn't form a cycle, or is longer than the number of states of the graph.
-/// - There isn't one potential for each state, or a potential is too large in absolute value for an output.
+/// - The number of potentials differs from the number of states, or a potential is too large in absolute value for an output.
 /// - Along some edge the potential rises by too much to show that no cycle has a smaller mean.
 pub(crate) fn confirmed(
     graph: &Graph,

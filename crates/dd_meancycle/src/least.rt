@@ -5,7 +5,7 @@ ghost use Rattle.dd_values.specs.Bounds.{most_number};
 ghost use Rattle.dd_transfer.specs.Graphs.{IsTransfer};
 ghost use Rattle.dd_meancycle.specs.Means.{IsMeanOf};
 ghost use Rattle.dd_meancycle.specs.table.Lists.{AreEdges, IsInStates};
-ghost use Rattle.dd_meancycle.specs.table.LeastMean.{IsMean, IsSmallMean};
+ghost use Rattle.dd_meancycle.specs.table.LeastMean.{IsMean, HasSmallPotentials};
 
 use crate::confirming::{are_ranks, confirmed};
 use crate::edges::{Edge, edges};
@@ -60,7 +60,7 @@ fn signed(alloc: Global, potentials: &[u64]) -> Result<Vec<i64>, AllocError>
 
 /// The same as `mean`, but with the cycle given by its states, and with potentials as signed numbers.
 fn in_states(alloc: Global, mean: EdgeMean) -> Result<Mean, AllocError>
-    requires { IsSmallMean mean }
+    requires { HasSmallPotentials mean }
     ensures { IfOk result (λ m. IsInStates mean m) }
 {
     match mean {

@@ -168,7 +168,7 @@ fn signed(number: u64) -> i64 {
     i64::try_from(number).unwrap_or(i64::MAX)
 }
 
-/// The states in the opposite order.
+/// The states in reverse order.
 fn reversed(alloc: Global, states: &[u32]) -> Result<Items<u32>, AllocError> {
     let states: Vec<u32> = states.iter().rev().copied().collect(alloc)?;
     Ok(Items::from_vec(states))

@@ -37,15 +37,15 @@ fn back_edge(edges: &[Edge], before: &[Option<u32>], state: u32, weight: u32) ->
     None
 }
 
-/// The edges in the opposite order.
+/// The edges in reverse order.
 fn reversed(alloc: Global, path: &[Edge]) -> Result<Vec<Edge>, AllocError>
     ensures { IfOk result (λ v. v.items ≡ reverse path.now) }
 {
     path.iter().rev().copied().collect(alloc)
 }
 
-/// The edges of the path from the place `start` on, in the opposite order. The path lists the edges of a walk from its last
-/// edge back to its first, so the result is a walk.
+/// The edges of the path from the place `start` on, in reverse order. The path lists the edges of a walk from its last edge
+/// back to its first, so the result is a walk.
 fn cycle_from(alloc: Global, path: &[Edge], start: usize) -> Result<Vec<Edge>, AllocError>
     requires { start ≤ length path.now }
     ensures { IfOk result (λ v. v.items ≡ reverse (drop start path.now)) }

@@ -81,8 +81,8 @@ impl PartialOrd for Periods {
     }
 }
 
-/// How many values the period of an axis can have: `most` if the axis is one of the first `dim`, else 1. With axis 1, and `x`
-/// as `most`, this is also the number of values that the shear can have. The axes are numbered from 0.
+/// How many values the period of an axis can have: `most` if the axis is one of the first `dim`, else 1. For axis 1, if `most`
+/// is `x`, this is also the number of values that the shear can have. The axes are numbered from 0.
 fn most_along(dim: u32, axis: u32, most: u32) -> u32
     ensures { result ≡ most_along dim axis most }
 {

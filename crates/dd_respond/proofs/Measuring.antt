@@ -8,7 +8,7 @@ use Rattle.dd_expansion.specs.Limits.{greatest}
 use Rattle.dd_formula.specs.LocalRule.{LocalRule, IsRule}
 use Rattle.dd_counts.specs.Rules.{state_length, slice_fillings, states}
 use Rattle.dd_strip.specs.{declared.strip.Strip.Strip, Strips.positions, Strips.IsStrip, Strips.strip_for}
-use Rattle.dd_transfer.specs.Certificates.{IsDensityCertificate, IsEmptyCertificate}
+use Rattle.dd_transfer.specs.Certificates.{IsDensityCertificate, IsEmptinessCertificate}
 use Rattle.dd_strips.specs.{Strips.IsLeastDensity, Claims.StripLeast, Claims.StripEmpty, Claims.spread_of}
 use Rattle.dd_density.specs.{declared.answer.Density.Density, Densities.IsCertifiedDensity, Densities.IsSmallDensity}
 use Rattle.dd_discharge.specs.{declared.bound.Bound.Bound, declared.fault.DischargeFault.DischargeFault, Printed.IsSmallBound}
@@ -27,7 +27,7 @@ AreLeast = (r : LocalRule) (periods ws : List ℕ) (p q : ℕ) (walk : List ℕ)
     (c : IsDensityCertificate r (strip_for r periods) ws p q walk ps) → StripLeast r (strip_for r periods) ws p q c.l c.m (spread_of ps)
 
 abbrev AreEmpty : Type 0
-AreEmpty = (r : LocalRule) (periods ranks : List ℕ) → IsRule r → IsStrip r periods → IsEmptyCertificate r (strip_for r periods) ranks →
+AreEmpty = (r : LocalRule) (periods ranks : List ℕ) → IsRule r → IsStrip r periods → IsEmptinessCertificate r (strip_for r periods) ranks →
     StripEmpty r (strip_for r periods) (greatest ranks + state_length r)
 
 pub density_right : AreLeast → AreEmpty → (x : LocalRule) (strip ws : List ℕ) → IsRule x → IsStrip x strip → (d : Density) →

@@ -5,7 +5,7 @@ use Rattle.std.specs.Prelude.{ℕ, ℤ, List}
 use Rattle.dd_lattice.specs.Place.{Place}
 use Rattle.dd_formula.specs.LocalRule.{LocalRule}
 use Rattle.dd_strip.specs.Strips.{strip_for}
-use Rattle.dd_transfer.specs.Certificates.{IsDensityCertificate, IsEmptyCertificate}
+use Rattle.dd_transfer.specs.Certificates.{IsDensityCertificate, IsEmptinessCertificate}
 use Rattle.dd_strips.specs.Strips.{IsLeastDensity, LivesNowhere}
 use Rattle.dd_density.specs.declared.answer.Density.{Density}
 use Rattle.dd_discharge.specs.{declared.bound.Bound.Bound, declared.fault.DischargeFault.DischargeFault, Amounts.bound_claimed}
@@ -27,7 +27,7 @@ written_density (density.Empty ranks) = answer.Empty ranks
 pub data IsRightDensity (x : LocalRule) (strip ws : List ℕ) : Answer → Type 0 where
   right_least : {p q : ℕ} {cycle : List ℕ} {potentials : List ℤ} → IsLeastDensity x (strip_for x strip) ws p q →
       IsDensityCertificate x (strip_for x strip) ws p q cycle potentials → IsRightDensity x strip ws (answer.Density p q cycle potentials)
-  right_empty : {ranks : List ℕ} → LivesNowhere x (strip_for x strip) → IsEmptyCertificate x (strip_for x strip) ranks → IsRightDensity x strip ws (answer.Empty ranks)
+  right_empty : {ranks : List ℕ} → LivesNowhere x (strip_for x strip) → IsEmptinessCertificate x (strip_for x strip) ranks → IsRightDensity x strip ws (answer.Empty ranks)
 
 -- ---- discharging
 

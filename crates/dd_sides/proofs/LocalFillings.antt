@@ -1,5 +1,5 @@
 -- If an admissible filling has symbols at some cells around a position, these symbols are an admissible filling of those cells. It shows the same
--- patterns and the same weight.
+-- patterns, and gives the origin the weight that the position has.
 use Rattle.std.proofs.Common.{◌≡◌, ℕ, true, List, map, refl, sym, ap, ◌∙◌, Some, None}
 use Rattle.std.proofs.lemmas.Bool.{and_parts, and_from, false≢true}
 use Rattle.std.specs.{Prelude.Option, Prelude.is_some, Prelude.unwrap_or, Prelude.IfSome, List.Contains, List.range_with_len}

@@ -1,4 +1,4 @@
--- The sides of a row. The left side is the bound, plus what the position gives, minus what it receives, the last two summed over the vectors. The
+-- A row as an inequality. The left side is the bound, plus what the position gives, minus what it receives, the last two summed over the vectors. The
 -- right side is the position's weight.
 use Rattle.std.proofs.Common.{◌≡◌, ℕ, zero, suc, ◌+◌, ◌*◌, ◌<◌, ◌≤◌, Bool, cond, List, [], ◌∷◌, ◌++◌, length, get_or, map, take, drop, refl, sym, ap, subst, ◌∙◌, inl, inr, arith}
 use Rattle.std.proofs.{Math.ListN.get_or-append, Math.ListN.get_or-eq_default, lemmas.Bool.cases_lt, lemmas.Bool.eq-eqb, lemmas.Int.ints}

@@ -11,9 +11,9 @@ use Rattle.dd_discharge.specs.{declared.bound.Bound.Bound, Amounts.held_over}
 use Rattle.dd_sides.specs.{Sides.IsSideFilling, Sides.side_weight, Boundaries.boundary}
 
 -- How far the ground around a position reaches: the radius of the patterns, plus the margin, plus the greatest absolute value of an entry of a
--- vector. What a position gives depends on its pattern: the symbols of the box around it that has the patterns' radius. The ground consists of the
--- boxes of this radius around the position and around each position that gives to it, all grown by the margin. For each of its admissible fillings
--- there is a row, a linear inequality: the bound, plus what the position gives, is at most the position's weight plus what it receives.
+-- vector. What a position gives depends on its pattern: the symbols of the box of radius `radius` around it. The ground consists of the boxes of this
+-- radius around the position and around each position that gives to it, all grown by the margin. For each of its admissible fillings there is a row,
+-- a linear inequality: the bound, plus what the position gives, is at most the position's weight plus what it receives.
 abbrev pub reach_of : ℕ → ℕ → List Place → ℕ
 reach_of radius margin vs = radius + margin + greatest (map extent vs)
 

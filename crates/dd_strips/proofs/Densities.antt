@@ -6,7 +6,7 @@ use Rattle.dd_formula.specs.LocalRule.{LocalRule, IsRule}
 use Rattle.dd_counts.specs.Rules.{state_length}
 use Rattle.dd_expansion.specs.Limits.{greatest}
 use Rattle.dd_strip.specs.{declared.strip.Strip.Strip, Strips.IsFor, Strips.positions, Strips.IsStrip, Strips.strip_for}
-use Rattle.dd_transfer.specs.Certificates.{AreStripPotentials, IsDensityCertificate, IsEmptyCertificate, potential_of, walk_weight}
+use Rattle.dd_transfer.specs.Certificates.{AreStripPotentials, IsDensityCertificate, IsEmptinessCertificate, potential_of, walk_weight}
 use Rattle.dd_transfer.specs.{Slices.RepeatsAcross, Slices.state_from, Slices.number_with_digits, Laws.AreDigits, Laws.AreEdgesOf}
 use Rattle.dd_strips.specs.Strips.{IsAdmissibleStripFilling, LivesOnStrip, LivesNowhere, slices_weight, tile_weight}
 use Rattle.dd_strips.specs.Claims.{IsHeavy, HasShortFillings, StripLeast, StripEmpty, spread_of}
@@ -68,7 +68,7 @@ module _ (r : LocalRule) (s : Strip) (rule : IsRule r) (for : IsFor r s) (edges 
       let e = edges look strip.filling.repeats in
       walk_is_heavy r s look e ws m l ps potentials x j (filling_steps r s look rule e x j strip)
 
-  pub fillings_short : (ranks : List ℕ) → IsEmptyCertificate r s ranks → HasShortFillings r s (greatest ranks + state_length r)
+  pub fillings_short : (ranks : List ℕ) → IsEmptinessCertificate r s ranks → HasShortFillings r s (greatest ranks + state_length r)
   fillings_short ranks falls n x look strip = elim (cases_lt n (state_length r)) [
     | inl less ↦ omega arith
     | inr more ↦
@@ -113,15 +113,15 @@ module _ (r : LocalRule) (s : Strip) (rule : IsRule r) (for : IsFor r s) (edges 
         let heavy : m * n ≤ l * slices_weight s ws look (pos 0 +ℤ pos (state_length r)) n = no_rise _ _ (m * n) (l * slices_weight s ws look (pos 0 +ℤ pos (state_length r)) n) back walk in
         subst (λ (w : ℕ). m * n ≤ l * w) weighs heavy
 
-    tile_nowhere : (ranks : List ℕ) → IsEmptyCertificate r s ranks → ⊥
+    tile_nowhere : (ranks : List ℕ) → IsEmptinessCertificate r s ranks → ⊥
     tile_nowhere ranks falls =
         let short : suc (greatest ranks) ≤ greatest ranks = walk_is_short r s (tile_look t) tile_edges ranks falls (pos 0) (suc (greatest ranks)) (λ i _. tile_step (pos 0 +ℤ pos i)) in
         absurd (omega arith)
 
-  pub nowhere : (ranks : List ℕ) → IsEmptyCertificate r s ranks → LivesNowhere r s
+  pub nowhere : (ranks : List ℕ) → IsEmptinessCertificate r s ranks → LivesNowhere r s
   nowhere ranks falls t on = tile_nowhere t on ranks falls
 
-  pub strip_empty_law : (ranks : List ℕ) → IsEmptyCertificate r s ranks → StripEmpty r s (greatest ranks + state_length r)
+  pub strip_empty_law : (ranks : List ℕ) → IsEmptinessCertificate r s ranks → StripEmpty r s (greatest ranks + state_length r)
   strip_empty_law ranks falls = record { short = fillings_short ranks falls; nowhere = nowhere ranks falls }
 
   -- the closed walk of the certificate gives a configuration whose density is the walk's mean divided by the number of positions in a slice

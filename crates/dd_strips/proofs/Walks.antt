@@ -10,7 +10,7 @@ use Rattle.dd_counts.specs.Rules.{states, state_length}
 use Rattle.dd_expansion.specs.{Limits.greatest, lemmas.Depths.at_most_greatest}
 use Rattle.dd_strip.specs.{declared.strip.Strip.Strip, Strips.cells, Strips.positions}
 use Rattle.dd_transfer.specs.Transfers.{IsEdge, slice_weight}
-use Rattle.dd_transfer.specs.Certificates.{AreStripPotentials, IsEmptyCertificate, potential_of}
+use Rattle.dd_transfer.specs.Certificates.{AreStripPotentials, IsEmptinessCertificate, potential_of}
 use Rattle.dd_transfer.specs.Slices.{HasSlices, IsKeptFrom, cell_from, symbols_from, slices_from, state_from}
 use Rattle.dd_transfer.specs.Laws.{AreEdgesOf}
 use Rattle.dd_strips.specs.{Strips.slices_weight, Claims.least_potential, Claims.greatest_potential, Claims.spread_of}
@@ -106,7 +106,7 @@ module _ (r : LocalRule) (s : Strip) (look : Look) (edges : AreEdgesOf r s look)
         some_state u n h = omega arith
 
   -- ranks fall along each step
-  module _ (ranks : List ℕ) (falls : IsEmptyCertificate r s ranks) where
+  module _ (ranks : List ℕ) (falls : IsEmptinessCertificate r s ranks) where
     walk_falls : (x : ℤ) (j : ℕ) → AreSteps r look x j → slice_index ranks (state_from r s look (x +ℤ pos j)) + j ≤ slice_index ranks (state_from r s look x)
     walk_falls x zero steps = let same = ap (λ (z : ℤ). slice_index ranks (state_from r s look z)) (plus_zero x) in omega (arith, same)
     walk_falls x (suc i) steps =

@@ -5,7 +5,7 @@ ghost use Rattle.dd_expansion.specs.Limits.{greatest};
 ghost use Rattle.dd_formula.specs.LocalRule.{LocalRule, IsRule};
 ghost use Rattle.dd_counts.specs.Rules.{state_length};
 ghost use Rattle.dd_strip.specs.Strips.{IsStrip, strip_for};
-ghost use Rattle.dd_transfer.specs.Certificates.{IsDensityCertificate, IsEmptyCertificate};
+ghost use Rattle.dd_transfer.specs.Certificates.{IsDensityCertificate, IsEmptinessCertificate};
 ghost use Rattle.dd_strip.specs.declared.strip.Strip.{Strip};
 ghost use Rattle.dd_strips.specs.Strips.{IsLeastDensity};
 ghost use Rattle.dd_strips.specs.Claims.{StripLeast, StripEmpty, spread_of};
@@ -30,7 +30,7 @@ pub fn strip_least()
 /// strip has more slices than the greatest rank plus the number of slices in a state.
 pub fn strip_empty()
     ensures { (r : LocalRule) (periods ranks : List ℕ) → IsRule r → IsStrip r periods →
-        IsEmptyCertificate r (strip_for r periods) ranks → StripEmpty r (strip_for r periods) (greatest ranks + state_length r) }
+        IsEmptinessCertificate r (strip_for r periods) ranks → StripEmpty r (strip_for r periods) (greatest ranks + state_length r) }
 {
     slices_are_walks();
 }

@@ -1,5 +1,5 @@
 -- For coordinates in range, the sum of two is equal to a third exactly when the 32-bit words that the code compares are equal. Negating the word of
--- such a coordinate gives the word of the opposite coordinate. A position moved by an offset and then by the reversed offset is where it was.
+-- such a coordinate gives the word of the negated coordinate. A position moved by an offset and then by the reversed offset is back where it was.
 use Rattle.std.proofs.Common.{◌≡◌, ℕ, ℤ, pos, ◌+ℤ◌, ◌-ℤ◌, arith, to_z, of_z, w32, eq-eqb, ap, sym, ◌∙◌, true, false}
 use Rattle.std.proofs.lemmas.Bool.{eqb-true, false_from_ne_true, and_left, and_right, and_from}
 use Rattle.std.proofs.lemmas.{Bool.Decides.Decides-int_eq, Int.ints}

@@ -36,6 +36,6 @@ short_list d nodes labels (e ∷ es) h =
     let edge = and_parts _ _ parts.0 in
     and_from _ _ (short_offset d e.offset edge.1) (short_list d nodes labels es parts.1)
 
--- no edge of a topology leads further than 4 along an axis
+-- no edge of a topology leads more than 4 steps along any axis
 pub short_edges : (g : Grid) → IsGrid g → are_short 4 g.edges ≡ true
 short_edges g h = short_list g.dimension g.nodes (length g.labels) g.edges h.edges

@@ -23,7 +23,7 @@ module _ {X : Type 0} where
       let rest : suc n * m - m ≡ n * m = omega (arith, suc-mul n m) in
       rw (take-replicate m (suc n * m) x first, drop-replicate m (suc n * m) x, rest) (ap (λ rows. replicate m x ∷ rows) (rows-replicate n m x))
 
-  -- two lemmas: where row a of a flat list stands in the flat list, and where item t of row a stands in the flat list
+  -- two lemmas: which part of a flat list is row a, and which item of the flat list is item t of row a
   pub get_or-in_rows : (n m a : ℕ) (xs : List X) (d : List X) → a < n → get_or (in_rows n m xs) a d ≡ take m (drop (a * m) xs)
   get_or-in_rows zero m a xs d h = absurd (omega arith)
   get_or-in_rows (suc n) m zero xs d h = rw zero-mul refl

@@ -16,7 +16,7 @@ use std::alloc::{AllocError, Global};
 /// The built-in topologies.
 #[derive(Debug, Clone, Copy, PartialEq, Eq)]
 pub enum Kind {
-    /// The line of dimension 1.
+    /// The line, of dimension 1: each cell has two neighbours.
     Line,
     /// The square grid: each cell has four neighbours.
     Square,

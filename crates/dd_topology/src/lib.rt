@@ -4,9 +4,9 @@
 //! y, then x, then the node.
 //!
 //! A topology has labelled edges. An edge leads, by a fixed offset, from each cell of its first node to a cell of its second
-//! node, which may be the same node. An edge leaves its first node. At most one edge with a given label leaves a node, and a
-//! move by the label follows this edge. Two cells are adjacent if an edge joins them, in either direction. The ball of radius r
-//! around a cell consists of the cells that a path of at most r edges joins to it.
+//! node, which may be the same node. An edge leaves its first node. For each node and each label, at most one edge with this
+//! label leaves the node, and a move by the label follows that edge. Two cells are adjacent if an edge joins them, in either
+//! direction. The ball of radius r around a cell consists of the cells that a path of at most r edges joins to it.
 //!
 //! The symbols of the whole alphabet are numbered from 0. The alphabet of a node is the set of symbols that the node
 //! allows.

@@ -35,8 +35,8 @@ one_power : (w : ℕ) → 1 ^ w ≡ 1
 one_power zero = refl
 one_power (suc w) = pow-suc 1 w ∙ (ap (λ (n : ℕ). n * 1) (one_power w) ∙ refl)
 
--- if there are at least two symbols and at most 131,072 windows, a slice has at most 8 cells. Here b is the number of symbols, c that of the cells in
--- a slice, and w that of the slices in a state
+-- if there are at least two symbols and at most 131,072 windows, a slice has at most 8 cells. Here b is the number of symbols, c the number of cells
+-- in a slice, and w the number of slices in a state
 few_cells : (b c w : ℕ) → 2 ≤ b → 1 ≤ w → (b ^ c) ^ (w + 1) ≤ 131072 → c ≤ 8
 few_cells b c w two h small = elim (cases_lt 8 c) [
   | inr le ↦ le

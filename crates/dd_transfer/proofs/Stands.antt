@@ -1,5 +1,5 @@
 -- How far a rule reads to the left and to the right. Cells are given relative to the cell at which the rule is evaluated. The least and the greatest
--- x are those of the cells that the rule reads and of this cell, which has the x 0.
+-- x are taken over the cells that the rule reads and this cell, whose x is 0.
 use Rattle.std.proofs.Common.{◌≡◌, ℕ, zero, suc, ◌+◌, ◌-◌, ◌<◌, ◌≤◌, Bool, true, List, [], ◌∷◌, ◌++◌, ℤ, pos, negsuc, ◌≤ℤ◌, unsigned_abs, ◌+ℤ◌, refl, ap, sym, ◌∙◌, subst, arith, inl, inr}
 use Rattle.std.proofs.lemmas.{Int.ints, Bool.and_parts, Bool.and_from, Bool.leb-true, Bool.cases_eq}
 use Rattle.std.proofs.lemmas.List.Folds.{list_all-append}

@@ -55,6 +55,6 @@ pub record IsDensityCertificate (r : LocalRule) (s : Strip) (weights : List ℕ)
   pub potentials : AreStripPotentials r s weights m l ps
 
 -- there is a rank for each state, and the rank falls along each edge
-pub record IsEmptyCertificate (r : LocalRule) (s : Strip) (ranks : List ℕ) : Type 0 where
+pub record IsEmptinessCertificate (r : LocalRule) (s : Strip) (ranks : List ℕ) : Type 0 where
   pub each : length ranks ≡ states r (positions s)
   pub fall : (u t v : ℕ) → IsEdge r s u t v → slice_index ranks v < slice_index ranks u

@@ -20,7 +20,7 @@ pub record AreDigits (base : ℕ) : Type 0 where
 -- how the slices of a look that repeats across the strip relate to the transfer graph
 pub record AreEdgesOf (r : LocalRule) (s : Strip) (look : Look) : Type 0 where
   -- the m + n slices from x on are the first m and then the other n. If the first n of n + 1 slices have the number N, and the last one has the
-  -- number M, all n + 1 have the number N * `slices` + M
+  -- number M, all n + 1 have the number N * S + M, where S is the number of different slices
   pub joined : (x : ℤ) (m n : ℕ) → symbols_from s look x (m + n) ≡ symbols_from s look x m ++ symbols_from s look (x +ℤ pos m) n
   pub longer : (x : ℤ) (n : ℕ) → slices_from r s look x (n + 1) ≡ slices_from r s look x n * slice_fillings r (positions s) + slices_from r s look (x +ℤ pos n) 1
   -- the weight of a slice is the total weight of its symbols

@@ -9,7 +9,7 @@ use thiserror::Error;
 pub enum TransferFault {
     /// The graph would have more than 4,096 states, or more than 131,072 windows. A window is a state followed by one more
     /// slice.
-    #[error("the strip has more than 4096 states, or more than 131072 windows")]
+    #[error("the transfer graph would have more than 4096 states, or more than 131072 windows")]
     Size,
     /// Memory ran out.
     #[error("out of memory")]

@@ -1,4 +1,4 @@
-//! The law of transfer graphs, as the contract of a call that does nothing.
+//! The law of transfer graphs, as the contract of a function that does nothing.
 ghost use Rattle.std.specs.Prelude.{ℕ};
 ghost use Rattle.dd_pattern.specs.Reading.{Look};
 ghost use Rattle.dd_formula.specs.LocalRule.{LocalRule, IsRule};

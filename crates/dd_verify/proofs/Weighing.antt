@@ -7,7 +7,7 @@ use Rattle.dd_expansion.specs.Limits.{greatest}
 use Rattle.dd_formula.specs.LocalRule.{LocalRule, IsRule}
 use Rattle.dd_counts.specs.Rules.{state_length}
 use Rattle.dd_strip.specs.Strips.{IsStrip, strip_for}
-use Rattle.dd_transfer.specs.Certificates.{IsDensityCertificate, IsEmptyCertificate}
+use Rattle.dd_transfer.specs.Certificates.{IsDensityCertificate, IsEmptinessCertificate}
 use Rattle.dd_strips.specs.Claims.{StripLeast, StripEmpty, spread_of}
 use Rattle.dd_discharge.specs.{declared.bound.Bound.Bound, Amounts.bound_claimed, Certificates.IsBoundCertificate, Certificates.BestOf}
 use Rattle.dd_boxes.specs.Discharges.{AreVectors}
@@ -54,7 +54,7 @@ AreLeast = (r : LocalRule) (periods ws : List ℕ) (p q : ℕ) (walk : List ℕ)
     (c : IsDensityCertificate r (strip_for r periods) ws p q walk ps) → StripLeast r (strip_for r periods) ws p q c.l c.m (spread_of ps)
 
 abbrev AreEmpty : Type 0
-AreEmpty = (r : LocalRule) (periods ranks : List ℕ) → IsRule r → IsStrip r periods → IsEmptyCertificate r (strip_for r periods) ranks →
+AreEmpty = (r : LocalRule) (periods ranks : List ℕ) → IsRule r → IsStrip r periods → IsEmptinessCertificate r (strip_for r periods) ranks →
     StripEmpty r (strip_for r periods) (greatest ranks + state_length r)
 
 module _ (least : AreLeast) (empty : AreEmpty) (x : LocalRule) (strip ws : List ℕ) (rule : IsRule x) (narrow : IsStrip x strip) where

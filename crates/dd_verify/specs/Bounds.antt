@@ -7,7 +7,7 @@ use Rattle.dd_formula.specs.{LocalRule.LocalRule, Living.Obeys}
 use Rattle.dd_boxes.specs.Fillings.{IsConfiguration}
 use Rattle.dd_counts.specs.Rules.{state_length}
 use Rattle.dd_strip.specs.Strips.{strip_for}
-use Rattle.dd_transfer.specs.Certificates.{IsInLowestTerms, walk_weight, IsDensityCertificate, IsEmptyCertificate}
+use Rattle.dd_transfer.specs.Certificates.{IsInLowestTerms, walk_weight, IsDensityCertificate, IsEmptinessCertificate}
 use Rattle.dd_strips.specs.Claims.{StripLeast, StripEmpty, spread_of}
 use Rattle.dd_discharge.specs.{declared.bound.Bound.Bound, Amounts.bound_claimed, Amounts.held_over}
 use Rattle.dd_discharge.specs.Certificates.{IsBoundCertificate, BestOf}
@@ -29,7 +29,7 @@ use Rattle.dd_certificate.specs.declared.answer.Answer.TheVariants as answer
 pub data IsStripCertificate (x : LocalRule) (strip ws : List ℕ) : Answer → Type 0 where
   strip_least : {p q : ℕ} {cycle : List ℕ} {potentials : List ℤ} → IsDensityCertificate x (strip_for x strip) ws p q cycle potentials →
       IsStripCertificate x strip ws (answer.Density p q cycle potentials)
-  strip_empty : {ranks : List ℕ} → IsEmptyCertificate x (strip_for x strip) ranks → IsStripCertificate x strip ws (answer.Empty ranks)
+  strip_empty : {ranks : List ℕ} → IsEmptinessCertificate x (strip_for x strip) ranks → IsStripCertificate x strip ws (answer.Empty ranks)
 
 -- p / q is the least density of the configurations that live on the strip. m / l is the mean weight of the closed walk `cycle`, in lowest terms. Let
 -- k be the number of slices in a state. In an admissible filling of k + j slices, l times the weight of the last j slices is at least m * j - s,

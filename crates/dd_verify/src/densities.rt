@@ -7,7 +7,7 @@
 //! number that falls along each edge.
 ghost use Rattle.std.specs.Prelude.{◌↔◌, IsTrue, IfOk};
 ghost use Rattle.dd_strip.specs.Strips.{strip_for};
-ghost use Rattle.dd_transfer.specs.Certificates.{IsDensityCertificate, IsEmptyCertificate};
+ghost use Rattle.dd_transfer.specs.Certificates.{IsDensityCertificate, IsEmptinessCertificate};
 ghost use Rattle.dd_certificate.specs.declared.answer.Answer.TheVariants as answer;
 ghost use Rattle.dd_certificate.specs.Bounds.{IsWritable};
 ghost use Rattle.dd_question.specs.Densities.{IsNarrow};
@@ -79,7 +79,7 @@ fn is_empty(
 ) -> Result<bool, AllocError>
     requires { IsNarrow rule.now strip weights.now }
     ensures { IfOk result (λ accepted. IsTrue accepted ↔ (IsWritable (answer.Empty ranks.now)
-        × IsEmptyCertificate rule.now (strip_for rule.now strip) ranks.now)) }
+        × IsEmptinessCertificate rule.now (strip_for rule.now strip) ranks.now)) }
 {
     if !is_list(ranks) {
         return Ok(false);

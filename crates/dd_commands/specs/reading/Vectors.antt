@@ -55,7 +55,7 @@ abbrev pub or_none : Option (Vector × List Lexeme) → Reader (Option Vector)
 or_none (Some v) tokens = Some (Some v.0, v.1)
 or_none None tokens = Some (None, tokens)
 
--- the shear of a configuration, if a vector without negative numbers comes next
+-- the form of a configuration's shear: a vector without negative numbers, or nothing
 abbrev pub shear : Form (Option Vector)
 shear = record {
   onto = λ s rest. second_vector_text s ++ rest;

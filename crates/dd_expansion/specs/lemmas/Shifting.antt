@@ -25,8 +25,8 @@ option_map_both : {A B C : Type 0} (f : B → C) (g : A → B) (h : A → C) (sa
 option_map_both f g h same None = refl
 option_map_both f g h same (Some a) = ap Some (same a)
 
--- If a cell is moved by v, these are moved by v too: the ends of edges and of a term's moves that start at the cell, the starts of edges that end
--- there, and the cells of the balls round it. Moving two cells by v changes neither whether they are adjacent nor whether they are the same.
+-- If a cell is moved by v, so are the ends of edges and of a term's moves that start at the cell, the starts of edges that end there, and the cells
+-- of the balls round it. Moving two cells by v changes neither whether they are adjacent nor whether they are the same.
 module _ (v : Place) where
   pub end_of_shifted : (c : Cell) (e : Edge) → end_of (shifted v c) e ≡ shifted v (end_of c e)
   end_of_shifted c e = ap (λ p. cell p e.to) (moved_both c.position v e.offset)

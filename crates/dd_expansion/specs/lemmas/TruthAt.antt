@@ -1,6 +1,6 @@
 -- The truth of a formula at a cell, from its expansion at the origin. If each cell d gets the symbol of the cell that is d moved by v, the expansion
--- has the truth value of the formula at the cell of the same node at v. With `seen`, d gets no symbol if d moved by v is out of range. The truth
--- value is still the same if the cell of each leaf gets a symbol.
+-- at the cell of the node a at the origin has the truth value of the formula at the cell of the node a at v. With `seen`, d gets no symbol if d moved
+-- by v is out of range. The truth value is still the same if the cell of each leaf gets a symbol.
 use Rattle.std.proofs.Common.{◌≡◌, ◌≤◌, ℕ, Bool, true, false, List, [], ◌∷◌, refl, ap, sym, ◌∙◌, Some, None, cond}
 use Rattle.std.proofs.lemmas.Bool.{cond_both}
 use Rattle.std.specs.{Prelude.is_some, List.list_all}
@@ -38,7 +38,7 @@ same_where : {A : Type 0} (b : Bool) (x y : A) → (b ≡ true → x ≡ y) → 
 same_where true x y h = ap Some (h refl)
 same_where false x y h = refl
 
--- The answer of `evaluate` is none exactly if some cell that the formula reads has no symbol, as seen from the position of c. Otherwise it is the
+-- The answer of `evaluate` is none exactly when some cell that the formula reads has no symbol, as seen from the position of c. Otherwise it is the
 -- truth value of the formula at c.
 pub truth_where_given : (es : List Edge) (n : ℕ) (f : Formula) (c : Cell) (look : Look) → 1 ≤ n → HasSymbolsBelow n look →
     cond (given (expansion es n f (origin_at c.node ∷ [])) (seen look c.position)) (Some (holds (expansion es n f (origin_at c.node ∷ [])) (seen look c.position))) None

@@ -23,7 +23,7 @@ left_out : (b : Bool) (p : Place) → None ≡ (if b then Some p else None) → 
 left_out true p h e = absurd (cc)
 left_out false p h e = absurd (cc)
 
--- take p if it is in range, and none if not: if this gives a position q, then q is p, and q is in range
+-- the choice is p if p is in range, and none otherwise: if it gives a position q, then q is p, and q is in range
 pub in_range_if_given : (p q : Place) → Some q ≡ (if is_in_range p then Some p else None) → (q ≡ p) × IsInRange q
 in_range_if_given p q h =
     let given = chosen (is_in_range p) p q h in
@@ -33,9 +33,9 @@ in_range_if_given p q h =
 pub outside_if_not_given : (p : Place) → None ≡ (if is_in_range p then Some p else None) → IsInRange p → ⊥
 outside_if_not_given p h near = left_out (is_in_range p) p h (test_from_in_range p near)
 
--- Two choices depend on the same truth value b: p or none, and `made p` or none. If the first choice gives q, the second gives `made q` (`of_sum`).
--- If the first gives none, so does the second (`of_no_sum`, where `made` stands for `made p`). Where these lemmas are used, p is a sum of two
--- positions.
+-- Two choices depend on the same truth value b. The first gives p or none, and the second gives `made p` or none. If the first gives q, the second
+-- gives `made q` (`of_sum`). If the first gives none, so does the second (`of_no_sum`, whose argument `made` is the value that `of_sum` calls `made
+-- p`). Where these lemmas are used, p is a sum of two positions.
 pub of_sum : {X : Type 0} (b : Bool) (p q : Place) (made : Place → Option X) → Some q ≡ (if b then Some p else None) → made q ≡ (if b then made p else None)
 of_sum true p q made h = ap made (chosen true p q h).1
 of_sum false p q made h = absurd (cc)

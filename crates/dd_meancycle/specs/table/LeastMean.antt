@@ -28,6 +28,6 @@ IsMean edges n (Least m l cycle potentials) = IsLeastMean edges n m l cycle.item
 IsMean edges n (NoCycle ranks) = (length ranks.items ≡ n) × AreEdgeRanks edges ranks.items
 
 -- if the result has potentials, each of them is at most `most_number`
-abbrev pub IsSmallMean : EdgeMean → Type 0
-IsSmallMean (Least m l cycle potentials) = All (λ p. p ≤ most_number) potentials.items
-IsSmallMean (NoCycle ranks) = Unit {0}
+abbrev pub HasSmallPotentials : EdgeMean → Type 0
+HasSmallPotentials (Least m l cycle potentials) = All (λ p. p ≤ most_number) potentials.items
+HasSmallPotentials (NoCycle ranks) = Unit {0}

@@ -1,5 +1,5 @@
 -- In a filling, each cell has the symbol with the same index. A cell outside the domain has no symbol. If all symbols are below a bound, so is each
--- that is read.
+-- symbol that is read.
 use Rattle.std.proofs.Common.{◌≡◌, ◌<◌, ℕ, zero, suc, Bool, true, false, List, [], ◌∷◌, length, get_or, slice_get, Some, None, Ok, Err, Result, ap, sym, subst, refl, ◌∙◌, arith, rules}
 use Rattle.std.proofs.lemmas.{Option.slice_get_past, Option.slice_get-get_or, List.get_or_default}
 use Rattle.std.specs.{Result.MatchResult, List.Contains, List.position_or_len}
@@ -43,7 +43,7 @@ other x c Less h apart = refl
 other x c Equal h apart = absurd (apart (cells_equal x c h))
 other x c Greater h apart = refl
 
--- a cell that isn't in the list has the length of the list as its place
+-- for a cell that isn't in the list, `place_of` gives the length of the list
 place_missing : (cs : List Cell) (c : Cell) → (Contains cs c → ⊥) → place_of cs c ≡ length cs
 place_missing [] c absent = refl
 place_missing (x ∷ cs) c absent =

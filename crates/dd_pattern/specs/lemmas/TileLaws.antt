@@ -74,7 +74,7 @@ look_same t v w a h = ap (λ i. cond (nat_lt a t.nodes) (slice_get t.symbols i) 
 read_at_base : (t : Tile) → IsTile t → (c : Cell) → tile_look t c ≡ tile_look t (cell (base_of t.periods c.position) c.node)
 read_at_base t ok c = look_same t c.position (base_of t.periods c.position) c.node (sym (base_again t.dimension t.periods ok.periods c.position))
 
--- a coordinate c from 0 to n - 1 is its own residue modulo n, and this is its distance from 0
+-- the residue modulo n of a coordinate c from 0 to n - 1 is c itself, which is the distance from 0 to c
 coordinate_is : (c : ℤ) (n : ℕ) → pos 0 ≤ℤ c → c ≤ℤ pos (n - 1) → 0 < n → residue c n ≡ gap (pos 0) c
 coordinate_is (pos k) n low high some = residue_small k n (omega (arith, ints)) ∙ omega (arith, ints)
 coordinate_is (negsuc k) n low high some = absurd (omega (arith, ints))

@@ -7,7 +7,7 @@ use Rattle.dd_pattern.specs.declared.periods.Periods.{Periods}
 abbrev pub IsAdded : List Periods → List Periods → (Periods → Type 0) → Type 0
 IsAdded old new P = (q : Periods) → Contains new q ↔ (Contains old q ⊎ P q)
 
--- how many values the period of an axis can have: n if the axis is active (one of the first d), else 1; with axis 1, and x as n, this is also the
+-- how many values the period of an axis can have: n if the axis is active (one of the first d), else 1; for axis 1, if n is x, this is also the
 -- number of values that the shear can have
 abbrev pub most_along : ℕ → ℕ → ℕ → ℕ
 most_along d axis n = cond (is_active d axis) n 1

@@ -1,5 +1,5 @@
 -- The extent of a sum of two positions is at most the sum of their extents. A position moved by a reversed offset and then by the offset itself is
--- where it was.
+-- back where it was.
 use Rattle.std.proofs.{Common.◌+◌, Common.arith, Common.◌≤◌, Common.◌≡◌, lemmas.Int.ints}
 use Rattle.dd_topology.specs.Topology.{extent, reversed}
 use Rattle.dd_lattice.specs.{Place.Place, Place.moved, lemmas.MoveLaws.place_same}
