@@ -1,4 +1,4 @@
--- What the run over a program's rows gives, in terms of the rule: a bound, its certificate, or a fault.
+-- What the run over a program's rows gives, in terms of the rule: a bound and its certificate, or a fault.
 use Rattle.std.proofs.Common.{◌≡◌, ℕ, List, length, sym, subst, inl, inr}
 use Rattle.dd_lattice.specs.Place.{Place}
 use Rattle.dd_formula.specs.LocalRule.{LocalRule}

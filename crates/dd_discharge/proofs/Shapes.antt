@@ -17,7 +17,7 @@ use Rattle.dd_rows.specs.{declared.rows.Row.Row, declared.rows.Rows.Rows, Fillin
 use Rattle.dd_rows.specs.Patterns.{origin, pattern_at, givers, pattern_number}
 use Rattle.dd_rows.specs.Programs.{one_at, coefficients, row_of, greatest_weight_row, is_same_row, add_row, first_seen, rows, column_count, IsProgramOf}
 use Rattle.dd_boxes.specs.{Discharges.AreWeightsFor, Cells.box_cells}
-use Rattle.dd_discharge.specs.{Amounts.row_in, listing.Tables.AreRowsOf}
+use Rattle.dd_discharge.specs.{Amounts.row_in, RowShape.AreRowsOf}
 use Rattle.dd_values.specs.lemmas.Lists.{all_map, all_flat_map, slice_index_within}
 
 record IsRowOf (columns : ℕ) (r : Row) : Type 0 where

@@ -5,7 +5,7 @@ use lib.IntN.{ℤ, pos}
 use Rattle.dd_fraction.specs.Exact.{Exact, whole_of}
 use Rattle.dd_simplex.specs.Programs.{LinearProgram, cap_row, zero_of}
 use Rattle.dd_rows.specs.declared.rows.Row.{Row}
-use Rattle.dd_discharge.specs.{Amounts.row_in, Bounds.row_of_fractions, Bounds.in_fractions, listing.Tables.AreRowsOf}
+use Rattle.dd_discharge.specs.{Amounts.row_in, Bounds.row_of_fractions, Bounds.in_fractions, RowShape.AreRowsOf}
 use Rattle.dd_discharge.proofs.Printing.{map_more}
 use Rattle.dd_simplex.specs.Programs as simplex
 

@@ -13,6 +13,6 @@ pub mod Certificates
 -- the reason for an `Overflow`, and which fault of a discharge comes from each fault of its program and of its run
 pub mod Faults
 -- the shape of a program's rows
-pub mod listing
+pub mod RowShape
 -- lemmas on these definitions, with their proofs, for other crates to cite
 pub mod lemmas

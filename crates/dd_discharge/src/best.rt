@@ -4,7 +4,7 @@ ghost use Rattle.dd_fraction.specs.Exact.{whole_of};
 ghost use Rattle.dd_discharge.specs.Amounts.{IsCertifiedBound};
 ghost use Rattle.dd_discharge.specs.Printed.{IsSmallBound};
 ghost use Rattle.dd_discharge.specs.Bounds.{in_fractions, EndsWith, GivesNone};
-ghost use Rattle.dd_discharge.specs.listing.Tables.{AreRowsOf};
+ghost use Rattle.dd_discharge.specs.RowShape.{AreRowsOf};
 
 use crate::bound::Bound;
 use crate::denominators::bound_of;

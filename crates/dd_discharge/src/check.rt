@@ -7,7 +7,7 @@ ghost use Rattle.std.specs.List.{All};
 ghost use Rattle.dd_values.specs.Bounds.{most_number};
 ghost use Rattle.dd_fraction.specs.Exact.{IsLowest};
 ghost use Rattle.dd_discharge.specs.Amounts.{total_below, coefficient_in, column_value, MeetRows, column_sum, dual_worth, AreDualsOver, IsCertifiedBound, bound_claimed};
-ghost use Rattle.dd_discharge.specs.listing.Tables.{AreRowsOf};
+ghost use Rattle.dd_discharge.specs.RowShape.{AreRowsOf};
 
 use crate::claimed::ClaimedBound;
 use dd_fraction::Fraction;

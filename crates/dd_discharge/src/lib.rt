@@ -11,11 +11,11 @@
 //! amount. All columns are at least 0. A row says that the sum of the columns, each times its coefficient, is at most the row's
 //! right side, its field `bound`. The first row says that column 0 is at most the number of nodes times the greatest weight of
 //! a symbol. The other rows come from the fillings of the ground, which consists of the cells of the boxes around the origin
-//! and around the positions that give to it, and of the cells that are, along each axis, at most a given margin away from them.
-//! A filling gives each of these cells a symbol that the cell's node allows. It is admissible if the rule is true at each cell
-//! of the ground at which the rule reads only cells of the ground. Each admissible filling gives a row. This row says that with
-//! this filling, the origin holds at least column 0 in the end. So the best bound is the greatest value of column 0 for which,
-//! with some amounts, all rows hold.
+//! and around the positions that give to it, and of the cells that are, along each axis, at most a given margin away from one
+//! of these cells. A filling gives each of these cells a symbol that the cell's node allows. It is admissible if the rule is
+//! true at each cell of the ground at which the rule reads only cells of the ground. Each admissible filling gives a row. This
+//! row says that with this filling, the origin holds at least column 0 in the end. So the best bound is the greatest value of
+//! column 0 for which, with some amounts, all rows hold.
 //!
 //! The duals are factors for the rows, each at least 0. If each row is multiplied by its dual, the sum of the rows has a
 //! coefficient of at least 1 in column 0, and of at least 0 in all other columns. The right side of this sum is what the duals

@@ -15,6 +15,6 @@ pub mod Boxes
 -- the faults of commands
 pub mod Commands
 -- two properties of commands, for contracts in `src/`
-pub mod walk
+pub mod Shape
 -- lemmas on these definitions, for other crates
 pub mod lemmas

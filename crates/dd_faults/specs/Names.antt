@@ -16,7 +16,8 @@ missing bytes names n = when (not (is_some (place_of_name bytes names n))) (Faul
 abbrev pub number_in : List ℕ → List (List ℕ) → Name → ℕ
 number_in bytes names n = unwrap_or (place_of_name bytes names n) 0
 
--- The number of a variable. The variable `o` has the number 0. The variables in scope are numbered from 1, the outermost first. Other words have none.
+-- The number of a variable. The variable `o` has the number 0. The variables in scope are numbered from 1, the outermost first. Other words have no
+-- number.
 abbrev pub variable_of : List ℕ → List Word → Word → Option ℕ
 variable_of bytes scope w = if bytes_eq (word_text bytes w) (codes "o") then Some 0 else option_map (λ k. k + 1) (position (λ v. bytes_eq (word_text bytes v) (word_text bytes w)) scope)
 

@@ -51,9 +51,9 @@ first_fault fs = noted None fs
 abbrev pub when : Bool → Fault → List Fault
 when holds f = if holds then f ∷ [] else []
 
--- the list of this limit's fault alone if `passed` is true, otherwise the empty list
+-- the list of this limit's fault alone if `exceeded` is true, otherwise the empty list
 abbrev pub over : Bool → Limit → List Fault
-over passed l = when passed (Fault.Size l)
+over exceeded l = when exceeded (Fault.Size l)
 
 -- the refusal is right: it is for the fault that was found, or it says that memory ran out
 abbrev pub Refuses : Refusal → Option Fault → Type 0

@@ -3,7 +3,7 @@ ghost use Rattle.std.specs.Prelude.{◌≡◌, OnOk};
 ghost use Rattle.dd_commands.specs.Scripts.{IsWritten};
 ghost use Rattle.dd_faults.specs.{Order.noted, Order.first_fault, Order.Accepts, Commands.faults_of, Commands.written_faults};
 ghost use Rattle.dd_known.specs.Sound.{IsSound};
-ghost use Rattle.dd_faults.specs.walk.Shape.{HasSymbols, IsHeader};
+ghost use Rattle.dd_faults.specs.Shape.{HasSymbols, IsHeader};
 
 use crate::atoms::Scope;
 use crate::boxes::configuration;

@@ -75,7 +75,7 @@ pub enum Fault {
     Twice(Name),
     /// A vector of a discharge is given twice.
     TwiceVector,
-    /// The dimension, or a number of nodes, symbols, weights or entries, does not fit.
+    /// The dimension, or a number of nodes, symbols, weights or entries, doesn't fit.
     Dimension,
     /// A limit is exceeded: the statement at its variant of `Limit` doesn't hold.
     Size(Limit),

@@ -17,7 +17,7 @@
 //! quantifiers bind, the outermost first.
 //!
 //! Whether a command exceeds the limits `Instances`, `Reach`, `Depth`, `Patterns`, `States` and `Clauses` depends on what it
-//! means. This crate doesn't test them, so the list of a command's faults doesn't contain theirs.
+//! means. This crate doesn't test these limits, so the list of a command's faults never says that one of them is exceeded.
 #![tactic(auto, using(crate::proofs::Noting::faults))]
 
 mod atoms;

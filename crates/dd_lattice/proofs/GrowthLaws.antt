@@ -1,5 +1,6 @@
--- Runs along an axis, and how runs along one axis after another make a region grow. The run from low to high has a copy of the region for each number
--- of steps from low to high - 1. A position is near a list on the first d axes if it satisfies `IsNearby d n` for the list.
+-- Runs along an axis, and how runs along one axis after another make a region grow. The run from low to high is the union of the copies of the region
+-- that are moved by s steps, where s is at least low and less than high. A position is near a list on the first d axes if it satisfies `IsNearby d n`
+-- for the list.
 use Rattle.std.proofs.Common.{◌≡◌, ◌⊎◌, inl, inr, ℕ, ◌<◌, ◌≤◌, Bool, true, false, ℤ, pos, negsuc, ◌+ℤ◌, ◌-ℤ◌, ◌≤ℤ◌, List, [], ◌∷◌, ap, sym, refl, ◌∙◌, arith}
 use Rattle.std.proofs.lemmas.{Int.ints, Bool.Decides.nat_tests, List.Elements.All-nil}
 use Rattle.std.specs.{Prelude.◌<ℤ◌, List.Contains, List.Sorted.IsStrictlySortedBy, Cmp.int_ranks, Ordering.int_cmp, Ordering.MatchOrdering}

@@ -45,8 +45,8 @@ fn along(axis: Axis, steps: i32) -> Position
     }
 }
 
-/// The region stretched along an axis: for each number of steps from `-by` to `by`, a copy of the region is moved along the
-/// axis by this number, and the result is the union of these copies.
+/// The region stretched along an axis: the union of the copies of the region that are moved along the axis by s steps, for each
+/// s from `-by` to `by`.
 fn stretched(alloc: Global, region: &Region, axis: Axis, by: u32) -> Result<Region, LatticeFault>
     requires { by ≤ most_coordinate }
     ensures { let stretched = IsStretched axis (pos 0 -ℤ pos by) (pos by +ℤ pos 1) region.now in

@@ -84,7 +84,7 @@ insert_members : (ks : List Periods) (k q : Periods) → Contains (insert_key pe
 insert_members [] k q = (Contains-cons_cases k [] q, λ h. elim h [ inl is ↦ subst (Contains (k ∷ [])) is (Contains-first k []) | inr none ↦ absurd (Contains-nil q none) ])
 insert_members (x ∷ xs) k q = insert_step k x xs (insert_key periods_cmp xs k) (insert_members xs k) (periods_cmp k x) (periods_equal k x) q
 
--- one turn of the loop over the shear
+-- one iteration of the loop over the shear
 pub shear_more : (a b c : List Periods) (i x y z : ℕ) → IsAdded a b (HasShear i x y z) → c ≡ insert_key periods_cmp b (made_periods x y z i) → IsAdded a c (HasShear (i + 1) x y z)
 shear_more a b c i x y z before is =
     let one : IsAdded b c (HasOnly x y z i) = λ q. (
@@ -99,7 +99,7 @@ up_to_split F f i q h = elim (last_or_before (f q) i h.most) [
   | inr last ↦ inr (subst (λ k. F k q) last h.rest)
 ]
 
--- one turn of a loop over x, y or z
+-- one iteration of a loop over x, y or z
 pub level_more : (F : ℕ → Periods → Type 0) (f : Periods → ℕ) → ((k : ℕ) (q : Periods) → F k q → f q ≡ k) → (a b c : List Periods) (i : ℕ) →
     IsAdded a b (IsPeriodUpTo F f i) → IsAdded b c (F (i + 1)) → IsAdded a c (IsPeriodUpTo F f (i + 1))
 level_more F f at a b c i before one =

@@ -24,7 +24,7 @@ pub record IsTile (t : Tile) : Type 0 where
   pub nodes_some : 0 < t.nodes
   pub full : length t.symbols ≡ periods_volume t.periods * t.nodes
 
--- the greatest number of symbols that code can hold for a fundamental box
+-- the greatest number of symbols that the code allows in a fundamental box
 abbrev pub most_symbols : ℕ
 most_symbols = 65536
 

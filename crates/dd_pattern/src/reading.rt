@@ -19,8 +19,8 @@ pub trait Configuration {
     /// The number of nodes of each position.
     ghost nodes: { Self → ℕ };
 
-    /// The symbol of each cell of Z^3. Some of these cells have a coordinate over 2^20 in absolute value, and code can't hold
-    /// them. The symbol is meaningful only if the cell's node is below `nodes`.
+    /// The symbol of each cell of Z^3. Some of these cells have a coordinate over 2^20 in absolute value, so `dd_lattice::Cell`
+    /// can't hold them. The symbol is meaningful only if the cell's node is below `nodes`.
     ghost symbol_of: { Self → Cell → ℕ };
 
     /// The number of the cell's symbol, where symbols are numbered from 0. The cell's node must be below the number of nodes.

@@ -43,7 +43,7 @@ four_neighbours = refl
 reaches_seven : reach_of 1 2 (down_right ∷ place (pos 0) (negsuc 3) (pos 0) ∷ []) ≡ 7
 reaches_seven = refl
 
--- the square of side 3 from the origin on, grown by 1, goes from -1 to 3
+-- the square of side 3 whose least corner is the origin, grown by 1, goes from -1 to 3 along each axis
 corner_in : is_in_grown 2 3 1 (place (pos 0) (pos 0) (pos 0)) (place (negsuc 0) (pos 3) (pos 0)) ≡ true
 corner_in = refl
 

@@ -97,7 +97,7 @@ row_is_row m (s ∷ symbols) all h =
       some = passes_any (λ b. b) row (get_or row s false) (Contains-get_or row s false (omega arith)) here;
     }
 
--- restricting one node to some symbols of the alphabet, at least one, keeps `IsSets` true
+-- restricting one node to one or more symbols of the alphabet keeps `IsSets` true
 pub restricted_are_sets : (n : ℕ) (s : SymbolSets) (a : ℕ) (symbols : List ℕ) → IsSets n s → All (λ t. t < s.symbols) symbols → 1 ≤ length symbols →
     IsSets n (restricted s a symbols)
 restricted_are_sets n s a symbols ok all some = record {

@@ -31,7 +31,7 @@ pub enum Kind {
 }
 
 impl Topology {
-    /// The built-in topology of a kind. Its labels are numbered from 0 in the order below, where the offset of each edge
+    /// The built-in topology of this kind. Its labels are numbered from 0 in the order below, where the offset of each edge
     /// follows its label:
     ///
     /// - line: `rt` (1), `lt` (-1)

@@ -134,9 +134,9 @@ impl Topology {
         self.labels.find(name)
     }
 
-    /// The edges, in the order in which they were given. The contract also says that no edge leads more than 4 steps along any
-    /// axis. It says too that, for all cells of Z^3, the test `is_adjacent` is true exactly when `IsAdjacent` holds, and the
-    /// list `ball` has exactly the cells for which `IsInBall` holds.
+    /// The edges, in the order in which they were given. The contract says that no edge leads more than 4 steps along any axis.
+    /// It also says that, for all cells of Z^3, the test `is_adjacent` is true exactly when `IsAdjacent` holds, and the list
+    /// `ball` has exactly the cells for which `IsInBall` holds.
     pub fn edges(&self) -> &[Edge]
         ensures edges { result.now ≡ self.now.edges }
         ensures adjacent { (a : AnyCell) → (b : AnyCell) → (is_adjacent result.now a b ≡ true) ↔ IsAdjacent result.now a b }

@@ -1,4 +1,4 @@
--- Sums of whole numbers. Numbers from -1 to 1 fit in 64 bits, and sums of few small terms fit in 128 bits.
+-- Sums of whole numbers. Numbers from -1 to 1 fit in 64 bits, and sums of not too many terms that aren't too large fit in 128 bits.
 use Rattle.std.proofs.Common.{◌≡◌, ℕ, zero, suc, ◌+◌, ◌*◌, ◌^◌, ◌<◌, ◌≤◌, refl, sym, ap, ◌∙◌, arith}
 use Rattle.std.proofs.lemmas.Int.{ints}
 use lib.IntN.{ℤ, pos, ◌+ℤ◌, ◌-ℤ◌, ◌*ℤ◌, *ℤ-zero}

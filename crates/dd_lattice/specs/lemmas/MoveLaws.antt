@@ -32,7 +32,7 @@ moved_region ps v region near =
       members = λ p. (Contains-from_map move ps p, λ h. rw h.2 (Contains-map move ps h.0 h.1));
     }
 
--- one turn of the loop that moves positions: p is the position at index i; p moved by v is in range, and the turn appends it to the list
+-- one iteration of the loop that moves positions: p is the position at index i; p moved by v is in range, and the turn appends it to the list
 pub moved_more : (ps made : List Place) (v p there : Place) (i : ℕ) → i < length ps → p ≡ get_or ps i p →
     (made ≡ map (λ q. moved q v) (take i ps)) × All IsInRange made → Some there ≡ (if is_in_range (moved p v) then Some (moved p v) else None) →
     (made ++ there ∷ [] ≡ map (λ q. moved q v) (take (i + 1) ps)) × All IsInRange (made ++ there ∷ [])

@@ -1,5 +1,5 @@
--- A region stretched along an axis. For each number of steps between two bounds, a copy of the region is moved along the axis by this number. The
--- stretched region is the union of these copies.
+-- A region stretched along an axis: the union of the copies of the region that are moved along the axis by s steps, where s runs from a lower bound
+-- up to, but not including, an upper bound.
 use Rattle.std.specs.{Prelude.◌≡◌, Prelude.ℤ, Prelude.pos, Prelude.◌≤ℤ◌, Prelude.◌<ℤ◌, Prelude.◌⊎◌, Prelude.List, List.Contains}
 use Rattle.dd_lattice.specs.{Place.Place, Place.place, Place.moved, Regions.PlaceSet, Regions.IsMoved, declared.growing.Axis.Axis}
 use Rattle.dd_lattice.specs.declared.growing.Axis.TheVariants.{X, Y, Z}

@@ -1,5 +1,5 @@
--- A function f from cells to symbols maps a list of cells to a list of symbols. The list of symbols gives each cell c in the list of cells the symbol
--- f(c). It is one of the `words` of the cells if their nodes allow its symbols.
+-- Let f be a function from cells to symbols. Applied to each cell of a list, f gives a list of symbols. Read as a filling, this list gives each cell
+-- c the symbol f(c). It is one of the `words` of the cells if each cell's node allows the cell's symbol.
 use Rattle.std.proofs.Common.{◌≡◌, ◌<◌, ℕ, true, false, List, [], ◌∷◌, map, sym, ap, subst, ◌∙◌, inl, inr, Some}
 use Rattle.std.proofs.lemmas.Bool.{cases_Bool, false≢true}
 use Rattle.std.specs.{Prelude.is_some, Prelude.slice_get, List.Contains, List.range_with_len, Ordering.is_eq}

@@ -1,4 +1,4 @@
--- Searches in lists, and in the lists that `map` and `flat_map` make of them.
+-- Searches in lists, and in the lists that `map` and `flat_map` make from them.
 use Rattle.std.proofs.Common.{◌≡◌, ◌+◌, List, [], ◌∷◌, ◌++◌, Bool, true, false, cond, not, ◌||◌, if◌then◌else◌, map, length, nat_lt, Some, None, Contains, refl, ap, sym, ◌∙◌, subst, inl, inr, arith}
 use Rattle.std.proofs.lemmas.{Bool.Decides.nat_tests, List.length-map, List.Folds.find_at, List.Folds.list_any_at}
 use Rattle.std.proofs.lemmas.List.Elements.{Contains-append_left, Contains-append_right, Contains-append_cases}

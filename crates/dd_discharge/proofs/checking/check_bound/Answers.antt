@@ -1,6 +1,6 @@
 use Rattle.std.proofs.Common.{◌≡◌, ◌+◌, ◌*◌, ℕ, List, length, ap, sym, subst, ◌∙◌}
 use Rattle.dd_rows.specs.{declared.rows.Row.Row, declared.rows.Rows.Rows, Programs.column_count, Programs.IsRowsFault}
-use Rattle.dd_discharge.specs.{declared.bound.Bound.Bound, Amounts.IsCertifiedBound, Amounts.bound_claimed, listing.Tables.AreRowsOf}
+use Rattle.dd_discharge.specs.{declared.bound.Bound.Bound, Amounts.IsCertifiedBound, Amounts.bound_claimed, RowShape.AreRowsOf}
 use Rattle.dd_discharge.proofs.{Shapes.program_rows, OneProgram.one_program, OneProgram.never_large}
 use Rattle.dd_discharge.proofs.checking.check_bound.Goals as goal
 

@@ -3,7 +3,7 @@ use Rattle.std.proofs.lemmas.Result.{IfOk-weaker, IfErr-weaker}
 use Rattle.dd_rows.specs.declared.rows.Row.{Row}
 use Rattle.dd_discharge.specs.Amounts.{IsCertifiedBound}
 use Rattle.dd_discharge.specs.Bounds.{in_fractions, EndsWith, GivesNone, IsBoundOf, IsDischargeFault}
-use Rattle.dd_discharge.specs.{Certificates.IsBoundCertificate, listing.Tables.AreRowsOf}
+use Rattle.dd_discharge.specs.{Certificates.IsBoundCertificate, RowShape.AreRowsOf}
 use Rattle.dd_discharge.proofs.Shapes.{program_rows}
 use Rattle.dd_discharge.proofs.Discharges.{IsGiven, bound_from, certificate_from, fault_from}
 use Rattle.dd_discharge.proofs.discharging.discharge.Goals as goal
