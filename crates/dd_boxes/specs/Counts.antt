@@ -1,4 +1,4 @@
--- How many clauses a box question has at most. The clauses encode the question on a region, which is a box or a torus.
+-- An upper bound on the number of clauses of a box question. The clauses encode the question on a region, which is a box or a torus.
 use Rattle.std.specs.Prelude.{ℕ, ◌≤◌, max}
 use Rattle.dd_formula.specs.{Counts.broken_clauses, Counts.region_clauses, Counts.largest_clauses, ValueCounts.differ_clauses}
 use Rattle.dd_formula.specs.LocalRule.{LocalRule}

@@ -13,11 +13,11 @@ pub mod TorusPeriods
 pub mod Witnesses
 -- the law of one box: what a box that suffices says about larger boxes, and about every filling and configuration
 pub mod Laws
--- the goals of the code, as contracts see them
+-- how contracts see a `Goal` of the code
 pub mod Views
 -- which vectors and which weights a discharging question may have: weight is given along the vectors, and each symbol has a weight
 pub mod Discharges
--- how many clauses a box question has at most
+-- an upper bound on the number of clauses of a box question
 pub mod Counts
 -- lemmas on these definitions, with their proofs, for other crates to cite
 pub mod lemmas

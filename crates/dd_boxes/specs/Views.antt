@@ -1,4 +1,4 @@
--- The goals of the code, as contracts see them in questions whose premise is a rule x.
+-- How contracts see a `Goal` of the code, in questions whose premise is a rule x.
 use Rattle.dd_formula.specs.{LocalRule.LocalRule, Automata.CommonNumbers}
 use Rattle.dd_boxes.specs.{Goals.GoalOf, Goals.breaks, Goals.differ, Goals.always, Goals.IsGoalFor, declared.goals.Goal.Goal}
 use Rattle.dd_boxes.specs.declared.goals.Goal.TheVariants.{Breaks, Differ, Always}

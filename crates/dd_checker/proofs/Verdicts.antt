@@ -12,8 +12,8 @@ use Rattle.dd_checker.specs.Certificates.{IsCertificateFor, IsCertificate, HasQu
 use Rattle.dd_checker.specs.Claims.{ClaimFor, Claim}
 use Rattle.dd_checker.specs.declared.verdict.Verdict.TheVariants as verdict
 
--- If a test decides whether the answer is both one that an output can hold and a certificate for the question that the query asks, then it decides
--- whether the answer is a certificate for the query.
+-- Suppose that a test decides whether an output can hold the answer and the answer is a certificate for the question that the query asks. Then the
+-- test decides whether the answer is a certificate for the query.
 pub certificate_for : (s : Parts) (q : Query) (k : Asked) (a : Answer) (l : Limits) → asked s q ≡ Some k → l ≡ s.known.limits → (b : Bool) →
     (b ≡ true) ↔ (IsWritable a × IsCertificateOf l k a) → (b ≡ true) ↔ IsCertificateFor s q a
 certificate_for s q k a l asks limits b told =

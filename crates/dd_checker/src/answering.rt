@@ -15,9 +15,9 @@ use std::alloc::{AllocError, Global};
 /// true. A claim may be about all positions of Z^d, all configurations, or all admissible fillings of certain cells. (A filling
 /// gives each cell of a set a symbol that the cell's node allows. At a cell, a rule reads the cells whose symbols its formula
 /// asks for there. The filling is admissible for the rule if the rule is true at each cell of the set at which the rule reads
-/// only cells of the set.) A YES has a radius for each of its box questions. Take a filling that is admissible for the
-/// question's premise. Suppose that it gives a symbol to each cell of the box of this radius around some position, and perhaps
-/// to other cells. Then the YES claims that the goal doesn't hold at this position.
+/// only cells of the set.) A YES has a radius for each of its box questions. Take one of these questions, and a filling that is
+/// admissible for its premise. Suppose that it gives a symbol to each cell of the box of this radius around some position, and
+/// perhaps to other cells. Then the YES claims that the goal doesn't hold at this position.
 ///
 /// # Errors
 /// `AllocError` if memory ran out.

@@ -15,8 +15,8 @@ value_composed n f g a =
     ap (λ (h : Valued). h.clauses a) (valued_composed n f g)
     ∙ ap (λ (k : Counted). total (map (λ (c : Cell). value_clauses n g c.node) (in_order (k.reads a))) + value_clauses n f a) (valued_counts n f)
 
--- Case i, counted from 0, takes i + 4 clauses: i + 2 for its own gate, and 2 that it adds to other gates. The lemma adds these up for the m cases
--- from case k on.
+-- Case i, counted from 0, takes i + 4 clauses besides those of its rule: i + 2 for its own gate, and 2 that it adds to other gates. The lemma adds
+-- these up for the m cases from case k on.
 choosing : (k m : ℕ) → total (map (λ i. i + 4) (range_with_len k m)) ≡ total (map (λ i. gate_clause_count (i + 1)) (range_with_len k m)) + 2 * m
 choosing k zero = refl
 choosing k (suc m) = let rest = choosing (k + 1) m in omega (arith, rest)

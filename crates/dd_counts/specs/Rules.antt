@@ -1,6 +1,6 @@
 -- How many patterns a rule has at a node, how many states its transfer graph has over a strip, how many windows there are, and the limits on these
--- numbers. A strip has periods along y and z, and no end along x. A slice of it consists of its cells with one value of x. The vertices of a transfer
--- graph are states: a state fills successive slices, and a window fills one slice more.
+-- numbers. A strip has periods along y and z, and no end along x. A slice consists of the strip's cells with one value of x. The vertices of a
+-- transfer graph are states: a state fills successive slices, and a window fills one slice more.
 use Rattle.std.specs.Prelude.{ℕ, ◌+◌, ◌-◌, ◌*◌, ◌^◌, max, ℤ, pos, ◌-ℤ◌, unsigned_abs, List, length}
 use Rattle.std.specs.{Int.int_min, Int.int_max, List.fold}
 use Rattle.dd_lattice.specs.declared.position.Cell.{Cell}
@@ -18,7 +18,7 @@ most_states = 4096
 abbrev pub most_windows : ℕ
 most_windows = 131072
 
--- the number of patterns of a rule at a node: fillings of the cells that the rule reads there
+-- the number of patterns of a rule at a node; a pattern is a filling of the cells that the rule reads there
 abbrev pub pattern_count : LocalRule → ℕ → ℕ
 pattern_count r a = r.symbols ^ length (cells_at r a)
 

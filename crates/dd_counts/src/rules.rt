@@ -1,8 +1,8 @@
 //! How many patterns a rule has at a node, how many states its transfer graph has over a strip, how many windows there are, and
 //! the limits on these numbers. A filling gives each of its cells a symbol, allowed there or not. A pattern is a filling of the
 //! cells that the rule reads at the node. A strip has periods along y and z, and no end along x. A slice of a strip consists of
-//! its cells with one value of x. The vertices of a transfer graph are states: a state fills `state_length` successive slices,
-//! and a window fills one slice more. Each edge is a window, but a window need not be an edge.
+//! the strip's cells with one value of x. The vertices of a transfer graph are states: a state fills `state_length` successive
+//! slices, and a window fills one slice more. Each edge is a window, but a window need not be an edge.
 ghost use Rattle.std.specs.Prelude.{◌≡◌, ◌^◌, ◌<◌, ◌≤◌};
 ghost use Rattle.dd_formula.specs.Counts.{cut};
 ghost use Rattle.dd_counts.specs.Rules.{pattern_count, least_x, greatest_x, slice_span, state_length, slice_fillings, states, window_count};

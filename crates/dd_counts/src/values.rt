@@ -20,8 +20,8 @@ fn given_clauses(cases: &Cases, node: u32, symbols: u32, limit: u32) -> u32
     requires limit { limit < 2 ^ 31 }
     ensures { result ≡ cut limit (given_clauses symbols cases.now node) }
 {
-    // An and-gate or an or-gate with k inputs has k + 1 clauses. Each symbol has a gate, which says that it is the value.
-    // Without cases, only the default symbol's gate has an input, which is the gate that says that no case is true.
+    // An and-gate or an or-gate with k inputs has k + 1 clauses. Each symbol has a gate that says that the symbol is the value.
+    // Without cases, only the default symbol's gate has an input: the gate that says that no case is true.
     let mut clauses = plus(limit, 2, symbols);
     // Each case has a gate that says that it is the first true case. This gate has 2 clauses for the first case, 3 for the
     // second, and so on. The case also adds one clause to the gate that says that no case is true, and one to the gate of its
@@ -85,7 +85,7 @@ fn value_clauses_from(
 }
 
 /// The number of clauses that say whether two automata differ at a node, or `limit + 1` if it is greater than `limit`. The
-/// clauses encode both values, a gate with two inputs for each symbol, and one gate over all these gates.
+/// clauses encode both values, one gate with two inputs for each symbol, and one gate over all these gates.
 fn differ_at(
     alloc: Global,
     first: &Automaton,

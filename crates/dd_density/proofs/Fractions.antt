@@ -45,7 +45,7 @@ lowest_small n d a b some p =
     let product : n * b ≤ a * b = omega (arith, long, p.same) in
     record { numerator = le_of_mul-le-mul_right product some; denominator = short }
 
--- dividing both terms of a fraction by their greatest common divisor brings it to lowest terms
+-- dividing both terms of a fraction by their greatest common divisor reduces it to lowest terms
 pub quotients_lowest : (a b g : ℕ) → IsGcd a b g → 0 < b → 0 < g → IsInLowestTerms (a / g) (b / g) a b
 quotients_lowest a b g is some g_pos =
     let am : a % g ≡ 0 = mod-eq-zero_of_dvd g is.0 in

@@ -37,7 +37,7 @@ fn last_weight(graph: &Graph, state: u64) -> u64
     graph.slice_weight((state % graph.slices() as u64) as u32)
 }
 
-/// The weight of a closed walk. `None` exactly when the walk isn't closed. An empty walk isn't closed.
+/// The weight of the walk if it is closed, and `None` otherwise. An empty walk isn't closed.
 fn closed_weight(graph: &Graph, walk: &[u64]) -> Option<u128>
     ensures { MatchOption result (¬ (IsCycle graph.now walk.now)) (λ w. IsCycle graph.now walk.now × (w ≡ weight_of graph.now walk.now) × (w < 2 ^ 89)) }
 {

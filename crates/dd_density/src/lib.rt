@@ -5,16 +5,16 @@
 //! period along z, or by some period along x. Each symbol has a weight, and the density of a configuration is its weight per
 //! position.
 //!
-//! The certificate speaks of the transfer graph (see `dd_transfer`). A slice of the strip gives a symbol to each cell at one
+//! The certificate is about the transfer graph (see `dd_transfer`). A slice of the strip gives a symbol to each cell at one
 //! value of x. It weighs as much as its symbols together. A state of the graph consists of consecutive slices. Where the rule
 //! allows it (see `dd_transfer`), an edge leads from a state to the state that results if the first slice is dropped and
 //! another slice is appended. The edge weighs as much as the appended slice. States are numbered from 0. A walk is given by the
 //! numbers of its states. Potentials and ranks are listed in the order of the states.
 //!
-//! If some configuration lives on the strip, the certificate is a closed walk, and a potential for each state of the graph. The
-//! mean of a closed walk is its weight divided by its number of edges. The density of the walk is this mean divided by the
-//! number of positions in a slice. Let m / l be the mean in lowest terms. Along each edge of weight w, the potential rises by
-//! at most l * w - m.
+//! If some configuration lives on the strip, the certificate consists of a closed walk and a potential for each state of the
+//! graph. The mean of a closed walk is its weight divided by its number of edges. The density of the walk is this mean divided
+//! by the number of positions in a slice. Let m / l be the mean in lowest terms. Along each edge of weight w, the potential
+//! rises by at most l * w - m.
 //!
 //! If no configuration lives on the strip, the certificate is a rank for each state. The rank falls along each edge.
 //!

@@ -1,4 +1,4 @@
-//! The transfer graph with which `least_density` and the checks begin, and weights of 0 for the check that needs no weights.
+//! The transfer graph that `least_density` and the checks build first, and weights of 0 for the check that needs no weights.
 ghost use Rattle.std.specs.Prelude.{◌≡◌, IfOk, replicate};
 ghost use Rattle.dd_strip.specs.Strips.{IsStrip, HasWeights, IsFew, strip_for};
 ghost use Rattle.dd_transfer.specs.Transfers.{IsGraphOf};

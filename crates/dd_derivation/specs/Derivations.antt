@@ -27,7 +27,7 @@ finding_of is_false (l ∷ rest) =
 abbrev pub finding : (Literal → Bool) → List Literal → Finding
 finding is_false clause = finding_of is_false (filter (λ l. not (is_false l)) clause)
 
--- The clause with a number, counted from 1, if there is one. Where a clause was deleted, the list has an empty place.
+-- The clause with this number, counted from 1, if there is one. Where a clause was deleted, the list has an empty place.
 abbrev pub clause_of : List (Option (List Literal)) → ℕ → Option (List Literal)
 clause_of known zero = None
 clause_of known (suc k) = option_and_then (λ c. c) (slice_get known k)

@@ -94,8 +94,8 @@ pub fn delete_all(alive: &mut [bool], count: usize, numbers: &[u64]) -> bool
     true
 }
 
-/// Deletes the clauses with these numbers, and checks nothing: for each number k, `alive[k - 1]` becomes false. A number that
-/// is not from 1 to `alive.len()` is skipped.
+/// Deletes the clauses with these numbers, whether or not they are alive: for each number k, `alive[k - 1]` becomes false. A
+/// number that is not from 1 to `alive.len()` is skipped.
 pub fn delete_named(alive: &mut [bool], numbers: &[u64])
     ensures { (cs : List (List Literal)) →
         known_of cs alive.new ≡ spec.known_after (known_of cs alive.old) numbers.now }

@@ -1,6 +1,7 @@
-//! Refutations of a clause list, and their check. A refutation is a list of steps. Each step gives a clause that follows from
-//! clauses before it, and hints: the numbers of the clauses that show this. The last step's clause is empty, so no assignment
-//! satisfies the clause list. A step may also delete clauses. A clause is alive, or known, until it is deleted.
+//! Refutations of a clause list, derivations from it, and how both are checked. A refutation is a list of steps. Each step
+//! gives a clause that follows from clauses before it, and hints: the numbers of the clauses that show this. The last step's
+//! clause is empty, so no assignment satisfies the clause list. A step may also delete clauses. A clause is alive, or known,
+//! until it is deleted.
 //!
 //! A clause is falsified if all of its literals are false. A falsified clause is a conflict. A clause forces a literal if this
 //! literal has no value yet and all other literals of the clause are false. A clause that is not falsified and forces no

@@ -226,7 +226,7 @@ pub fn check_derivation(cnf: &Cnf, steps: &[Step], marks: &mut Marks) -> bool
     )
 }
 
-/// Deletes the clauses that these steps delete, and checks nothing (see `delete_named`).
+/// Deletes the clauses that these steps delete, whether or not they are alive (see `delete_named`).
 fn delete_earlier(alive: &mut [bool], steps: &[Step])
     ensures { (cs : List (List Literal)) →
         known_of cs alive.new ≡ spec.known_after_steps (known_of cs alive.old) steps.now }

@@ -14,7 +14,7 @@ use Rattle.dd_forbidden.proofs.Lists.{range_from, less_at}
 use Rattle.dd_values.specs.lemmas.Members.{Contains-cons_cases, sorted_append, Contains-first, Contains-nil}
 use Rattle.dd_values.specs.lemmas.Lists.{nothing_past, range_has, of_part}
 
--- ss is `start`, followed by allowed symbols of the cells cs, and the rule is false under ss
+-- ss is `start` followed by allowed symbols for the cells cs, and the rule is false under ss
 record Extends (r : LocalRule) (a : ℕ) (cs : List Cell) (start ss : List ℕ) : Type 0 where
   rest : List ℕ
   is : ss ≡ start ++ rest

@@ -3,8 +3,7 @@ ghost use Rattle.std.specs.Prelude.{◌≡◌, ◌<◌, ◌≤◌, ◌^◌, ℕ,
 ghost use Rattle.dd_formula.specs.LocalRule.{LocalRule, IsRule, cells_at};
 ghost use Rattle.dd_forbidden.specs.Breaking.{IsBreaking, BreakingFillings};
 
-/// Does nothing. Its contract says that there is at most one list of all breaking fillings that has each of them once, in
-/// lexicographic order.
+/// Does nothing. Its contract says that at most one list consists of all breaking fillings, each once, in lexicographic order.
 pub fn one_list()
     ensures { (r : LocalRule) (a : ℕ) (xs ys : List (List ℕ)) → BreakingFillings r a xs → BreakingFillings r a ys → xs ≡ ys }
 {}

@@ -1,4 +1,4 @@
--- Why the marked automaton and the automata of a pair are refused.
+-- Why the marking automaton and the automata of a pair are refused.
 use Rattle.std.proofs.Common.{◌≡◌, ℕ, true, false, refl, sym, ◌∙◌, subst, inl, inr, Result, Ok, Err}
 use Rattle.std.specs.Prelude.{IfErr}
 use Rattle.dd_topology.specs.{Grid.Grid, Sets.SymbolSets}

@@ -1,4 +1,4 @@
--- The cells that the marked automaton, the zero automaton and the identity read are near: within the limit on reach.
+-- The cells that the marking automaton, the zero automaton and the identity read are near: within the limit on reach.
 use Rattle.std.proofs.Common.{◌≡◌, ◌<◌, ℕ, ◌-◌, Bool, true, List, [], ◌∷◌, map, refl, ap, sym, ◌∙◌, subst}
 use Rattle.std.proofs.lemmas.Bool.{and_from}
 use Rattle.std.proofs.lemmas.List.Folds.{list_all-map, list_all-append, flat_map-map}
@@ -67,7 +67,7 @@ module _ (g : Grid) (s : SymbolSets) where
   one_short : (r : LocalRule) (t a : ℕ) → list_all is_near (reads_at r a) ≡ true → list_all is_near (cases_reads ((r, t) ∷ []) a) ≡ true
   one_short r t a h = list_all-append is_near (reads_at r a) [] ∙ and_from _ _ h refl
 
-  -- if the rule reads only near cells, so does the marked automaton: it reads at most the cell itself and what the rule reads
+  -- if the rule reads only near cells, so does the marking automaton: it reads at most the cell itself and what the rule reads
   pub marked_short : (y : LocalRule) → y ≡ local_rule g s y.formula → ReadsNear y → is_short g.nodes (counted (marked g s y)) ≡ true
   marked_short y same short =
       ap (is_short g.nodes) (counted_given _)
@@ -79,7 +79,7 @@ module _ (g : Grid) (s : SymbolSets) where
   pub zero_short : (n : ℕ) → is_short n (counted (always_zero g s)) ≡ true
   zero_short n = ap (is_short n) (counted_given _) ∙ all_pass _ (λ a. refl) (range_with_len 0 n)
 
-  -- the cases of the identity read only near cells: each of them reads the cell itself alone
+  -- the cases of the identity read only near cells: each of them reads nothing but the cell itself
   own_short : (ts : List ℕ) (a : ℕ) → list_all is_near (cases_reads (map (case_over g s) (map own_symbol ts)) a) ≡ true
   own_short [] a = refl
   own_short (t ∷ ts) a =

@@ -18,7 +18,7 @@ guarded_of s y = guarded s y.nodes y.formula
 abbrev pub guarded_depth : SymbolSets → LocalRule → ℕ
 guarded_depth s y = depth (guarded_of s y)
 
--- the marked automaton of a rule: it gives 0 where the guarded formula is true, else 1
+-- the marking automaton of a rule: it gives 0 where the guarded formula is true, else 1
 abbrev pub marked : Grid → SymbolSets → LocalRule → Automaton
 marked g s y = by_cases g s ((guarded_of s y, 0) ∷ []) 1
 

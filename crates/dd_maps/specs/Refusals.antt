@@ -1,4 +1,4 @@
--- Why the marked automaton of a rule, or a pair of automata, is refused.
+-- Why the marking automaton of a rule, or a pair of automata, is refused.
 use Rattle.std.specs.Prelude.{◌<◌, ◌≤◌, ◌≡◌, ◌⊎◌, false}
 use Rattle.dd_topology.specs.{Grid.Grid, Sets.SymbolSets}
 use Rattle.dd_expansion.specs.Limits.{most_nested}
@@ -25,7 +25,7 @@ IsMarkedFault g s y Instances = IsGuardedShallow s y × (is_few g.nodes (counted
 IsMarkedFault g s y Reach = ⊥
 IsMarkedFault g s y Memory = Unit {0}
 
--- the guarded formula is within the limit on depth, and the composition that applies f and then the marked automaton has the fault e
+-- the guarded formula is within the limit on depth, and the composition that applies f and then the marking automaton has the fault e
 abbrev pub IsLaterFault : Grid → SymbolSets → LocalRule → Automaton → RuleFault → Type 0
 IsLaterFault g s y f e = IsGuardedShallow s y × IsCompositionFault g.nodes (composition (marked g s y) f) e
 

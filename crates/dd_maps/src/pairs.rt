@@ -106,7 +106,7 @@ fn composed_with(alloc: Global, outer: Automaton, inner: &Automaton) -> Result<A
 /// Two automata, which differ at some node of a position exactly when the image under `map` breaks the rule `target` at some
 /// node of that position.
 ///
-/// The first is a composition: it applies `map`, and then the automaton that `marked` makes of `target`. The second gives 0
+/// The first is a composition: it applies `map`, and then the automaton that `marked` makes from `target`. The second gives 0
 /// everywhere. They give a cell different symbols exactly when, in the image under `map`, the cell has a symbol that its node
 /// doesn't allow, or `target` is false at the cell.
 ///

@@ -1,4 +1,4 @@
--- The list of the words of length n has each of them, and is ascending. The words that break a rule are the rule's breaking fillings.
+-- The list of the words of length n contains each of them, in ascending order. The words that break a rule are the rule's breaking fillings.
 use Rattle.std.proofs.Common.{◌≡◌, ◌<◌, ◌+◌, ℕ, zero, suc, Bool, true, false, cond, List, [], ◌∷◌, length, map, get_or, refl, sym, ◌∙◌, ap, subst, inl, inr, arith}
 use Rattle.std.proofs.lemmas.Bool.{and_parts, false≢true}
 use Rattle.std.proofs.lemmas.List.Elements.{All-nil, All-cons, All-head, All-tail, All-get_or}

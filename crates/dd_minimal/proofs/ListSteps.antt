@@ -54,7 +54,7 @@ module _ (r : LocalRule) (a at : ℕ) (some : 0 < r.symbols) (within : at < r.sy
       ap (filter (λ ss. does_break (outcome r a ss))) (word_next r.symbols (length (cells_at r a)) at some within)
       ∙ ap (λ k. cond (does_break (outcome r a here)) (here ∷ breaking_from r a k) (breaking_from r a k)) (let next : suc at ≡ at + 1 = omega arith in next)
 
-  -- the filling is marked exactly when it agrees with a pattern that is already found
+  -- the filling is marked exactly when it agrees with a pattern that has already been found
   here_marked : (marks : List Bool) (found : Patterns) → AreMarks r.symbols (length (cells_at r a)) marks found → get_or marks at false ≡ is_covered found here
   here_marked marks found are = ap (λ i. get_or marks i false) (sym here_number) ∙ are here here_word
 

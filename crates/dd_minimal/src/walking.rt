@@ -7,7 +7,7 @@ ghost use Rattle.dd_minimal.specs.finding.Walks.{marked, none_holds};
 
 use crate::outcome::Outcome;
 
-/// Whether the rule is true under none of the walk's fillings with allowed symbols. The walk stops at the first of them under
+/// Whether the rule is false under all of the walk's fillings with allowed symbols. The walk stops at the first of them under
 /// which the rule is true.
 pub(crate) fn none_holds(symbols: u32, strides: &[usize], table: &[Outcome], from: usize) -> bool
     requires { from + reach symbols strides.now < length table.now }
@@ -24,9 +24,9 @@ pub(crate) fn none_holds(symbols: u32, strides: &[usize], table: &[Outcome], fro
     true
 }
 
-/// The answer of `none_holds` for a walk along `strides` and then along `stride`, the stride of one more cell. If the answer is
+/// What `none_holds` answers for a walk along `strides` and then along `stride`, the stride of one more cell. If the answer is
 /// yes, this cell can be left out too. The call skips the fillings in which the cell has the symbol `kept`. The caller already
-/// knows that the rule is true under no such filling with allowed symbols.
+/// knows that the rule is false under every such filling with allowed symbols.
 pub(crate) fn can_leave_out(
     symbols: u32,
     kept: u32,

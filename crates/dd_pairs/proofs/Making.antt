@@ -1,4 +1,4 @@
--- The pairs of comparisons, made one after the other, and the first fault.
+-- The pairs that comparisons ask about, made one after the other, and the first fault.
 use Rattle.std.proofs.Common.{◌≡◌, ◌<◌, ℕ, ◌+◌, List, [], ◌∷◌, ◌++◌, length, map, take, drop, get_or, Some, refl, sym, ap, subst, ◌∙◌, arith}
 use Rattle.std.proofs.lemmas.{Grind.common_steps, Grind.flat_map-append, List.Elements.All-nil, List.Elements.All-push}
 use Rattle.std.proofs.lemmas.List.{drop_more, take-append-drop, map-append}

@@ -21,7 +21,7 @@ pub record IsMade (s : Setting) (c : ComparisonOf) (faults : List Fault) (made :
 abbrev pub Makes : Setting → ComparisonOf → List Fault → Result Pair Refusal → Type 0
 Makes s c faults result = MatchResult result (IsMade s c faults) (λ e. Refuses e (earliest faults))
 
--- the pairs of comparisons are well formed; neither they nor the questions about them exceed a limit
+-- the pairs that these comparisons ask about are well formed; neither they nor the questions about them exceed a limit
 pub record HavePairs (k : Known) (cs : List ComparisonOf) : Type 0 where
   pub formed : All (λ c. IsPair k.setting (pair_of k.setting c)) cs
   pub faultless : faults_in_order k cs ≡ []

@@ -29,7 +29,7 @@ pub(crate) fn number_named_at(context: &Context, request: &Request, place: usize
     number_in(&context.text, context.known.named(*role), Name::Word(*word))
 }
 
-/// The value of the number at the index `place`, cut off at `u32::MAX`; 0 if there is no such number.
+/// The value of the number at the index `place`, capped at `u32::MAX`; 0 if there is no such number.
 pub(crate) fn value_at(context: &Context, request: &Request, place: usize) -> u32
     ensures { result ≡ min (value_at context.now request.now place) 4294967295 }
 {

@@ -38,8 +38,8 @@ pub record Means (d : Draft) (w : Written) (m : Meaning) : Type 0 where
   pub pairs : HavePairs d.context.known (comparisons_in (parts_of d) m)
   pub counted : d.context.number ≤ most_commands
 
--- both faults say the same: that the command with this number is not well formed (the number is 0 if some token stands before the first command), or
--- that memory ran out
+-- both faults say the same thing: that the command with this number is not well formed (the number is 0 if some token stands before the first
+-- command), or that memory ran out
 abbrev pub IsUnread : SyntaxFault → ScriptFault → Type 0
 IsUnread SyntaxFault.Memory e = e ≡ record { command = 0; kind = ScriptKind.Memory }
 IsUnread (SyntaxFault.At n) e = e ≡ record { command = n; kind = ScriptKind.Syntax }

@@ -77,7 +77,7 @@ meaning_at bytes topology n s w = meaning_of (context bytes topology n s) s.auto
 -- The first fault of a command: the first of the lowest rank among the faults of the command's text. (Unknown names have the lowest rank, then come
 -- repetitions, then wrong dimensions and wrong numbers of items, then exceeded limits, in the order of `Limit`.) If there is none, it is the first
 -- limit that the command's rule or automaton exceeds: on its instances, on how far away it reads cells, or on its depth. (Instances are, roughly, the
--- parts of its formulas once these are written without variables. The depth is how deep compositions are nested.) If there is none either, it is
+-- parts of its formulas once these are written without variables. The depth is how deeply compositions are nested.) If there is none either, it is
 -- `asked_fault` of the command's meaning.
 abbrev pub fault_of : List ℕ → Bool → ℕ → Parts → Written → Option Fault
 fault_of bytes topology n s w =

@@ -14,11 +14,11 @@ pub enum ScriptKind {
     /// The command is not well formed, or some token stands before the first command.
     #[error("not well formed")]
     Syntax,
-    /// This name refers to nothing of the kind that must stand there. Or a configuration gives the symbol with this name to a
-    /// cell whose node doesn't allow it.
+    /// This name refers to nothing of the required kind. Or a configuration gives the symbol with this name to a cell whose
+    /// node doesn't allow it.
     #[error("unknown name {0}")]
     Unknown(String),
-    /// This name is given twice where it may be given only once. If a discharge query has a vector twice, the string is
+    /// This name is given twice where it may be given only once. If a discharging query has a vector twice, the string is
     /// `vector`.
     #[error("{0} is given twice")]
     Twice(String),

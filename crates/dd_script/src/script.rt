@@ -177,7 +177,7 @@ impl Script {
         let automata = made.automata.as_slice();
         match pairs_of(alloc, &contents.known, rules, automata, query) {
             Ok(pairs) => Ok(pairs),
-            // The script was accepted with this query, so no limit is exceeded. Only memory can have run out.
+            // The script was accepted with this query, so no limit is exceeded. The only possible error is that memory ran out.
             Err(_) => Err(AllocError),
         }
     }

@@ -9,7 +9,7 @@ use Rattle.dd_strip.specs.{declared.strip.Strip.Strip, Strips.IsFor, Strips.posi
 use Rattle.dd_transfer.specs.Certificates.{AreStripPotentials, IsDensityCertificate, IsEmptinessCertificate, potential_of, walk_weight}
 use Rattle.dd_transfer.specs.{Slices.RepeatsAcross, Slices.state_from, Slices.number_with_digits, Laws.AreDigits, Laws.AreEdgesOf}
 use Rattle.dd_strips.specs.Strips.{IsAdmissibleStripFilling, LivesOnStrip, LivesNowhere, slices_weight, tile_weight}
-use Rattle.dd_strips.specs.Claims.{IsHeavy, HasShortFillings, StripLeast, StripEmpty, spread_of}
+use Rattle.dd_strips.specs.Claims.{IsHeavy, HasOnlyShortFillings, StripLeast, StripEmpty, spread_of}
 use Rattle.dd_strips.proofs.{Walks.IsStep, Walks.walk_weighs, Walks.walk_is_heavy, Walks.walk_is_short, Fillings.filling_steps}
 use Rattle.dd_strips.proofs.Tiles.{IsOnStrip, tile_repeats, tile_has, symbols_round, period_weighs}
 use Rattle.dd_strips.proofs.Cycles.{tile_of, on_strip, lives_on_strip, cycle_weighs}
@@ -68,7 +68,7 @@ module _ (r : LocalRule) (s : Strip) (rule : IsRule r) (for : IsFor r s) (edges 
       let e = edges look strip.filling.repeats in
       walk_is_heavy r s look e ws m l ps potentials x j (filling_steps r s look rule e x j strip)
 
-  pub fillings_short : (ranks : List ℕ) → IsEmptinessCertificate r s ranks → HasShortFillings r s (greatest ranks + state_length r)
+  pub fillings_short : (ranks : List ℕ) → IsEmptinessCertificate r s ranks → HasOnlyShortFillings r s (greatest ranks + state_length r)
   fillings_short ranks falls n x look strip = elim (cases_lt n (state_length r)) [
     | inl less ↦ omega arith
     | inr more ↦

@@ -1,4 +1,4 @@
--- Remainders of remainders, of numbers with one more digit, and modulo a power with the exponent 0.
+-- Remainders of remainders and of numbers with one more digit, and remainders modulo a power with the exponent 0.
 use Rattle.std.proofs.Common.{◌≡◌, ℕ, ◌+◌, ◌-◌, ◌*◌, ◌/◌, ◌%◌, ◌^◌, ◌<◌, ◌≤◌, ap, sym, ◌∙◌, arith}
 use Rattle.std.proofs.Math.Nat.{mod-eq_of_lt, mod-lt, add-mul-mod_self_right, pow-zero, mod-one}
 use Rattle.std.proofs.lemmas.Nat.{div-add-mod', mul-add-lt, pow-add}

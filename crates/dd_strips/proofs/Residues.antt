@@ -3,7 +3,7 @@ use Rattle.std.proofs.Common.{◌≡◌, ℕ, ◌+◌, ◌*◌, ◌%◌, ◌/◌
 use Rattle.std.proofs.{Math.Nat.mul-le-mul_left, Math.Nat.add-mul-mod_self_right, lemmas.Int.ints, lemmas.Nat.div-add-mod'}
 use Rattle.dd_pattern.specs.{Periods.residue, lemmas.Residues.residue_is}
 
--- x plus a multiple of n that is great enough to make the sum at least 0
+-- x plus a multiple of n that is large enough to make the sum at least 0
 record Raised (x : ℤ) (n : ℕ) : Type 0 where
   natural : ℕ
   is : x +ℤ pos (unsigned_abs x * n) ≡ pos natural

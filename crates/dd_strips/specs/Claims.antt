@@ -18,12 +18,12 @@ pub record StripLeast (r : LocalRule) (s : Strip) (ws : List ℕ) (p q l m sprea
   pub heavy : IsHeavy r s ws m l spread
 
 -- no admissible filling of the strip has more than k slices
-abbrev pub HasShortFillings : LocalRule → Strip → ℕ → Type 0
-HasShortFillings r s k = (n : ℕ) (x : ℤ) (look : Look) → IsAdmissibleStripFilling r s x n look → n ≤ k
+abbrev pub HasOnlyShortFillings : LocalRule → Strip → ℕ → Type 0
+HasOnlyShortFillings r s k = (n : ℕ) (x : ℤ) (look : Look) → IsAdmissibleStripFilling r s x n look → n ≤ k
 
 -- no admissible filling has more than k slices, and no configuration lives on the strip
 pub record StripEmpty (r : LocalRule) (s : Strip) (k : ℕ) : Type 0 where
-  pub short : HasShortFillings r s k
+  pub short : HasOnlyShortFillings r s k
   pub nowhere : LivesNowhere r s
 
 abbrev pub least_potential : List ℤ → ℤ

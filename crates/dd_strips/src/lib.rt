@@ -13,9 +13,9 @@
 //! slices, with symbols for their cells. A window is a state followed by one more slice. At the cells of its tested slice, the
 //! rule reads only cells of the window. An edge drops a state's first slice and adds a slice after the last one. The edge
 //! weighs what the added slice weighs. There are two kinds of certificates. One is a closed walk in this graph, with an integer
-//! for each state, its potential. The other is a natural number for each state, its rank. The walk's mean is its weight divided
-//! by its length, and m / l is this mean in lowest terms. Along each edge of weight w, the potential rises by at most l * w -
-//! m. The rank falls along each edge.
+//! for each state of the graph, its potential. The other is a natural number for each state, its rank. The walk's mean is its
+//! weight divided by its length, and m / l is this mean in lowest terms. Along each edge of weight w, the potential rises by at
+//! most l * w - m. The rank falls along each edge.
 #![tactic(auto)]
 
 mod laws;

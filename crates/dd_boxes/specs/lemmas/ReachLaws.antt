@@ -74,7 +74,7 @@ reach_is_least r ok = record {
 pub one_least : (g : GoalOf) (m n : ℕ) → IsLeastRadius g m → IsLeastRadius g n → m ≡ n
 one_least g m n a b = let up : m ≤ n = a.least n b.reaches in let down : n ≤ m = b.least m a.reaches in omega (arith, up, down)
 
--- two automata together read as far as the one of them that reads farther
+-- two automata together read as far as whichever of them reads farther
 module _ (s : CommonNumbers) (f g : Automaton) (some : 1 ≤ s.dimension) where
   abbrev radius : ℕ
   radius = max (automaton_reach s.nodes f) (automaton_reach s.nodes g)

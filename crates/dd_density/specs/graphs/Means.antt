@@ -22,7 +22,7 @@ pub record IsDensityOf (volume m l : ℕ) (cycle : List ℕ) (ps : List ℤ) (p 
   pub potentials_are : qs ≡ ps
   pub small : All (λ u. u < 2 ^ 32) walk
 
--- the answer is the density for the least mean, or `Empty` with the same ranks, each less than 2^32, if there is no closed walk
+-- the answer is the density for the least mean; if there is no closed walk, it is `Empty` with the ranks of `NoCycle`, each less than 2^32
 abbrev pub IsOfMean : ℕ → Mean → Density → Type 0
 IsOfMean volume (mean.Least m l cycle ps) (Least p q walk qs) = IsDensityOf volume m l cycle ps p q walk qs
 IsOfMean volume (mean.Least m l cycle ps) (Empty ranks) = ⊥

@@ -31,8 +31,8 @@ open_early p clause i d first l rest lt f g n s =
     let e : clause ≡ take i clause ++ l ∷ drop (suc i) clause = sym (take-append-drop i clause) ∙ ap (λ (x : List Literal). take i clause ++ x) (drop-cons clause i d lt ∙ ap (λ (x : Literal). x ∷ drop (suc i) clause) g) in
     subst (λ (x : List Literal). finding p x ≡ Open) (sym e) (open_at p (take i clause) (drop (suc i) clause) first l rest f n s)
 
-pub all_sums : (p : Literal → Bool) (clause : List Literal) (i : ℕ) (c : Option Literal) → length clause ≤ i → AreCopiesOf c (filter (λ x. not (p x)) (take i clause)) → AreCopiesOf c (filter (λ x. not (p x)) clause)
-all_sums p clause i c h s = subst (λ (x : List Literal). AreCopiesOf c (filter (λ y. not (p y)) x)) (take_all i clause h) s
+pub copies_in_all : (p : Literal → Bool) (clause : List Literal) (i : ℕ) (c : Option Literal) → length clause ≤ i → AreCopiesOf c (filter (λ x. not (p x)) (take i clause)) → AreCopiesOf c (filter (λ x. not (p x)) clause)
+copies_in_all p clause i c h s = subst (λ (x : List Literal). AreCopiesOf c (filter (λ y. not (p y)) x)) (take_all i clause h) s
 
 -- if the literals that are not false are all copies of one literal, the clause forces that literal, unless it is true already
 pub forced_end : (p : Literal → Bool) (clause : List Literal) (l : Literal) → AreCopiesOf (Some l) (filter (λ x. not (p x)) clause) → finding p clause ≡ cond (p (negation l)) Open (Forced l)

@@ -86,7 +86,7 @@ known_of-set (c ∷ cs) [] k = refl
 known_of-set (c ∷ cs) (a ∷ alive) zero = refl
 known_of-set (c ∷ cs) (a ∷ alive) (suc k) = ap (λ (ys : List (Option (List Literal))). cond a (Some c) None ∷ ys) (known_of-set cs alive k)
 
--- deleting the clause with a number means writing false in `alive`, at the index one below the number
+-- deleting the clause with this number means writing false in `alive`, at the index one below the number
 pub without-known_of : (cs : List (List Literal)) (alive : List Bool) (number : ℕ) → (number ≡ 0 → ⊥) → without (known_of cs alive) number ≡ known_of cs (set alive (number - 1) false)
 without-known_of cs alive zero n = absurd (n refl)
 without-known_of cs alive (suc k) n = let e : suc k - 1 ≡ k = omega arith in rw e (sym (known_of-set cs alive k))

@@ -28,7 +28,7 @@ both_hold true true h = (refl, refl)
 both_hold true false h = absurd (h (inr refl))
 both_hold false b h = absurd (h (inl refl))
 
--- an image that doesn't break the rule at a position keeps it at each node there
+-- an image that doesn't break the rule at a position obeys it at each node there
 pub image_keeps : (f : Automaton) (y : LocalRule) (look : Look) (v : Place) → (ImageBreaks f y look v → ⊥) → AtEachNode y.nodes (KeepsAt f y look) v
 image_keeps f y look v unbroken a below = both_hold _ _ (λ broken. unbroken (a, below, broken))
 

@@ -33,7 +33,7 @@ differs_where true true x z h h' = (λ other. absurd (other (h ∙ sym h')), λ 
 differs_where true false x z h h' = (λ other. inl refl, λ e same. absurd (let both : 1 ≡ 0 = sym h ∙ (same ∙ h') in omega arith))
 differs_where false b x z h h' = (λ other. inr refl, λ e same. absurd (let both : 1 ≡ 0 = sym h ∙ (same ∙ h') in omega arith))
 
--- The composition that applies f and then the marked automaton gives 0 exactly where the guarded formula is true in the image under f. The image
+-- The composition that applies f and then the marking automaton gives 0 exactly where the guarded formula is true in the image under f. The image
 -- gives the cell a symbol of the alphabet, so the guards say that the cell's node allows this symbol.
 module _ (g : Grid) (s : SymbolSets) (y : LocalRule) (over : IsRuleOver g s y) (f : Automaton) (fits : automaton_fits (numbers_over g s) f ≡ true) (look : Look) where
   pub value_image : (c : Cell) → c.node < g.nodes →

@@ -14,6 +14,6 @@ abbrev pub marked : ℕ → List ℕ → List Bool → ℕ → List Bool
 marked m [] marks from = slice_set marks from true
 marked m (d ∷ ds) marks from = fold (λ now s. marked m ds now (from + s * d)) marks (range_with_len 0 m)
 
--- the table shows that the rule is true under no filling with allowed symbols that agrees with the pattern
+-- the table shows that the rule is false under every filling with allowed symbols that agrees with the pattern
 abbrev pub is_enough : ℕ → List Outcome → List (Option ℕ) → Bool
 is_enough m table p = none_holds m (open_strides m p) table (least_number m p)

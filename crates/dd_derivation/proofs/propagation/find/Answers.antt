@@ -3,7 +3,7 @@ use Rattle.std.proofs.lemmas.{Grind.common_steps, Bool.not-true}
 use Rattle.std.specs.List.{filter}
 use Rattle.dd_clause.specs.{declared.clause.Literal.Literal, Clauses.negation}
 use Rattle.dd_derivation.specs.Derivations.{same_literal}
-use Rattle.dd_derivation.specs.lemmas.Findings.{AreCopiesOf, open_early, all_sums, forced_end}
+use Rattle.dd_derivation.specs.lemmas.Findings.{AreCopiesOf, open_early, copies_in_all, forced_end}
 use Rattle.dd_derivation.proofs.propagation.find.Goals as goal
 
 none : Literal
@@ -20,7 +20,7 @@ returns-then-ne g c =
 
 -- at the end, all literals of the clause that are not false are copies of the candidate
 at_end : (p : Literal → Bool) (clause : List Literal) (i : ℕ) (o : Option Literal) (l : Literal) → length clause ≤ i → o ≡ Some l → AreCopiesOf o (filter (λ x. not (p x)) (take i clause)) → AreCopiesOf (Some l) (filter (λ x. not (p x)) clause)
-at_end p clause i o l h e s = all_sums p clause i (Some l) h (subst (λ (x : Option Literal). AreCopiesOf x (filter (λ y. not (p y)) (take i clause))) e s)
+at_end p clause i o l h e s = copies_in_all p clause i (Some l) h (subst (λ (x : Option Literal). AreCopiesOf x (filter (λ y. not (p y)) (take i clause))) e s)
 
 pub returns-else-is_false : goal.returns-else-is_false
 returns-else-is_false g c =
