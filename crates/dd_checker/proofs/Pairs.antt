@@ -1,7 +1,7 @@
 -- The claim of each certificate for a query about an image or a conjugacy is true. Such a query consists of comparisons. A comparison asks whether
 -- the image of a configuration can break a rule or have a symbol that isn't allowed, or whether two automata, applied one after the other, can change
--- a configuration. Each comparison becomes a box question about two automata that are made for it, its pair: whether these two can differ. The script
--- doesn't store these pairs, but its invariant says what the proof needs to know of their automata.
+-- a configuration. Each comparison becomes a box question about two automata that are made for it, its pair: whether these two always agree. The
+-- script doesn't store these pairs, but its invariant says what the proof needs to know of their automata.
 use Rattle.std.proofs.Common.{◌≡◌, true, List, [], Some, None, Option, subst, arith}
 use Rattle.std.proofs.lemmas.{List.Elements.All-contains}
 use Rattle.std.specs.{List.All, List.Contains, Prelude.unwrap_or, Prelude.slice_get}

@@ -51,7 +51,7 @@ pub fn certified(script: &Script)
 /// configuration must have the script's number of nodes, and give each cell a symbol that the cell's node allows. `_place` must
 /// be a position of Z^d. The YES must be a certificate for the query with the number `_query`, counted from 1 (0 counts as 1).
 /// This query asks one box question, or two if it is about equality. If the configuration obeys the premise of one of these
-/// questions, the goal of this question doesn't hold at `_place`.
+/// questions, the goal of that question doesn't hold at `_place`.
 pub fn lifted<C: Configuration>(
     script: &Script,
     _query: u32,

@@ -1,4 +1,4 @@
--- Differences a - q · b. They are computed as a product and then a sum, or in one step if the numbers fit in 16 bits.
+-- Differences a - q · b. They are computed as a product and then a difference, or in one step if the numbers fit in 16 bits.
 use Rattle.std.proofs.Common.{◌≡◌, ℕ, ◌+◌, ◌*◌, ◌^◌, ◌<◌, ◌≤◌, refl, sym, ap, subst, ◌∙◌, arith, Some, None, Bool, true, false, cond}
 use Rattle.std.proofs.lemmas.Int.{ints, unsigned_abs-mul, fits_signed_from_abs}
 use Rattle.std.proofs.Math.Nat.{mul-le-mul_right, div-le_self}

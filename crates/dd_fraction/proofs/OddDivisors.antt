@@ -49,7 +49,7 @@ power_divides n (suc k) h =
     let even : n % 2 ≡ 0 = sym (bit_at_lowest n) ∙ h 0 (omega arith) in
     subst (λ (m : ℕ). m ∣ n) (omega (arith, two-pow-succ k)) (subst (λ (m : ℕ). 2 ^ k * 2 ∣ m) (twice_half n even) (mul-dvd-mul_right (2 ^ k) half 2))
 
--- a number that is not 0, shifted right by its trailing zeros, is odd
+-- a number other than 0, shifted right by the number of its trailing zeros, is odd
 pub shifted_odd : (n : ℕ) → 0 < n → n < 2 ^ 64 → n / 2 ^ trailing_zeros w64 n % 2 ≡ 1
 shifted_odd n p q = (bit_at-trailing_zeros w64 n p q).1
 

@@ -30,7 +30,7 @@ pub record IsSmall (a : Exact) : Type 0 where
   pub below : a.den < 2 ^ 16
   pub bounded : unsigned_abs a.num ≤ 2 ^ 15
 
--- whether the product of the numerators and that of the denominators fit, before the result is brought to lowest terms
+-- whether the product of the numerators and that of the denominators fit, before the result is reduced to lowest terms
 abbrev pub does_product_fit : Exact → Exact → Bool
 does_product_fit a b = is_bounded (a.num *ℤ b.num) && is_bounded (pos (a.den * b.den))
 

@@ -1,4 +1,4 @@
--- Exact fractions: a whole number over a natural number, both of any size. A denominator of 0 counts as 1.
+-- Exact fractions: an integer over a natural number, both of any size. A denominator of 0 counts as 1.
 use Rattle.std.specs.Prelude.{◌≡◌, ℕ, ◌*◌, ◌/◌, ◌<◌, max, suc}
 use Rattle.std.specs.Int.RustNames.{unsigned_abs, int_div}
 use lib.IntN.{ℤ, pos, negsuc, neg_ℤ, ◌+ℤ◌, ◌*ℤ◌}

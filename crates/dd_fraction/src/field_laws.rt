@@ -1,5 +1,5 @@
 //! Laws of exact fractions, as contracts of functions that do nothing. The numerators and denominators may be of any size.
-//! Fractions with the same lowest terms count as equal. Sums and products are in lowest terms, and bringing an operand to
+//! Fractions with the same lowest terms count as equal. Sums and products are in lowest terms, and reducing an operand to
 //! lowest terms doesn't change the result. The contracts say this too.
 ghost use Rattle.dd_fraction.specs.Laws.{AreSumLaws, AreProductLaws, AreOppositeLaws, AreOrderLaws, AreOrderedFieldLaws};
 

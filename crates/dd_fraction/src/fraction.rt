@@ -156,7 +156,7 @@ impl Fraction {
     {
         let num = product(self.num, other.num)?;
         let den = size_product(self.den, other.den)?;
-        // If one factor is 1 or -1, the product has the numerator and the denominator of the other factor, up to the sign.
+        // If one factor is 1 or -1, the product has the numerator and the denominator of the other factor, up to sign.
         if self.is_unit() || other.is_unit() {
             return Some(in_lowest_terms(num, den));
         }
@@ -202,7 +202,7 @@ impl Fraction {
         self.den == 1 && self.num.unsigned_abs() == 1
     }
 
-    /// The quotient by a fraction other than 0. `None` if the product of `self` and `1 / other` is `None`.
+    /// The quotient of `self` by `other`, which must not be 0. `None` if the product of `self` and `1 / other` is `None`.
     pub fn div(&self, other: &Fraction) -> Option<Fraction>
         requires { other.now.num ≢ pos 0 }
         ensures { result ≡ checked_quotient self.now other.now }

@@ -7,7 +7,7 @@ use dd_lattice;
 
 /// A numbering of some cells, possibly of all.
 pub trait Numbers {
-    /// For each cell of Z^3, its number, or none.
+    /// For each cell, its number, or none.
     ghost numbering: { Self → Cell → Option ℕ };
 
     /// The number of the cell: the index, from 0, of its symbol in a list. `None` if the cell has no number.

@@ -7,9 +7,9 @@ ghost use Rattle.dd_numbered.specs.Numbering.{rank};
 use crate::numbers::Numbers;
 use dd_lattice::Cell;
 
-/// A numbering by a list of cells in cell order. Each cell of the list has its index there as its number. Every other cell has
-/// the length of the list as its number. So if there is one symbol for each cell of the list, every other cell has no symbol:
-/// its number is past the end of the symbols.
+/// A numbering by a list of cells in cell order. Each cell of the list has its index there as its number. A cell that isn't in
+/// the list has the length of the list as its number. So if there is one symbol for each cell of the list, a cell that isn't in
+/// the list has no symbol: its number is past the end of the symbols.
 #[derive(Drop)]
 pub struct Ranks<'a> {
     /// The cells, strictly ascending in cell order.

@@ -1,6 +1,7 @@
--- The effects of reads and writes on the bytes left in a source or held by a sink. Also counts that stop at 2^64 - 1. `old` lists these bytes before
--- the reads or writes, and `new` lists them afterwards. Each is `None` if contracts don't say which bytes these are. `Appends old new b` says that
--- `new` is `old` followed by `b`, and `Consumes old new b` says that `old` is `b` followed by `new`. If `old` is `None`, both hold for any `b`.
+-- The effects of reads and writes on the bytes left in a source or held by a sink, and counts that stop at 2^64 - 1. `old` lists the bytes left or
+-- held before the reads or writes, and `new` lists them afterwards. Each is `None` if contracts don't say which bytes these are. `Appends old new b`
+-- says that `new` is `old` followed by `b`, and `Consumes old new b` says that `old` is `b` followed by `new`. If `old` is `None`, both hold for any
+-- `b`.
 use Rattle.std.specs.Prelude.{◌≡◌, ℕ, ◌-◌, ◌^◌, ◌≤◌, ◌<◌, List, ◌++◌, length, min}
 use Rattle.std.specs.{declared.option.Option.Option, Io.KnownBytes.Appends, Io.KnownBytes.Consumes, Io.KnownBytes.IsAtEnd}
 use Rattle.std.proofs.Common.{arith}

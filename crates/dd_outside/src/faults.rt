@@ -12,7 +12,7 @@ pub struct Failed;
 
 /// A write failed before a whole piece was written.
 #[derive(Clone, Copy, Debug, PartialEq, Eq, Error)]
-#[error("a piece was not written whole")]
+#[error("a piece was not written in full")]
 pub struct WriteFault;
 
 /// Why a source was not read to its end.

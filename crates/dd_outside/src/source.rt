@@ -65,7 +65,7 @@ fn read_on<S: Source>(
 /// 2^64 - 1.
 ///
 /// # Errors
-/// - `ReadFault` if a read failed. Then the bytes read before are lost.
+/// - `ReadFault` if a read failed. Then the bytes read so far are lost.
 /// - `TooLong` if the source gave more bytes than the limit.
 /// - `Memory` if memory ran out. Then it isn't known whether one of the other two errors would have occurred.
 pub fn read_all<S: Source>(

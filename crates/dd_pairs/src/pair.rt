@@ -56,10 +56,10 @@ impl Pair {
     }
 }
 
-/// The question whether a map from the configurations that obey `from` to those that obey `to`, and a map back, are inverse to
-/// each other. It is given by the two rules and four goals, one for each pair. There must be four pairs: in order, one for the
-/// image under the map, one for the image under the map back, one for the map followed by the map back, and one for the map
-/// back followed by the map.
+/// The question whether a map takes the configurations that obey `from` to ones that obey `to`, a map back takes those that
+/// obey `to` to ones that obey `from`, and the two maps are inverse to each other. It is given by the two rules and four goals,
+/// one for each pair. There must be four pairs: in order, one for the image under the map, one for the image under the map
+/// back, one for the map followed by the map back, and one for the map back followed by the map.
 pub fn conjugacy<'a>(from: &'a Rule, to: &'a Rule, pairs: &'a [Pair]) -> Conjugacy<'a>
     requires { length pairs.now ≡ 4 }
     ensures { IsConjugacyBy from.now to.now pairs.now result }

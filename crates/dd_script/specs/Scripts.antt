@@ -36,8 +36,9 @@ pub record HasFault (bytes : List ℕ) (n : ℕ) (k : RefusalKind) : Type 0 wher
   pub comes_first : first_located_fault bytes tree.commands ≡ Some (located n found)
   pub is : k ≡ kind_of bytes found
 
--- The bytes are refused with the number n and this kind. They are refused for the first command that is not well formed (n is 0 if some token stands
--- before the first command). If all commands are well formed, the bytes are refused for the first fault of a command.
+-- The bytes are refused with this kind, for the command with the number n. It is the first command that is not well formed (n is 0 if some token
+-- stands before the first command). If all commands are well formed, it is the first command with a fault, and the kind is that of the fault for
+-- which it is refused.
 abbrev pub RefusedAs : List ℕ → ℕ → RefusalKind → Type 0
 RefusedAs bytes n syntax = IsSyntaxFault bytes n
 RefusedAs bytes n (unknown text) = HasFault bytes n (unknown text)

@@ -33,7 +33,7 @@ pub(crate) struct Draft {
     pub(crate) made: Made,
 }
 
-/// Adds the name, which is not in the list yet. If the list has more names than any script can have, the call fails as if
+/// Adds the name, which must not be in the list yet. If the list has more names than any script can have, the call fails as if
 /// memory ran out.
 fn add_name(alloc: Global, text: &Text, names: &mut Names, name: Word) -> Result<(), AllocError>
     requires { ¬ Contains names.old (word_text text.now name) }

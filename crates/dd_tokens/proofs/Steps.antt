@@ -19,7 +19,8 @@ next piece position (b ∷ bytes) is some within =
     rw (← is) (ap (with_piece piece position)
     (ap (λ (k : ℕ). tokens_after k position (b ∷ bytes)) (sym n) ∙ over (piece_size piece) position (b ∷ bytes) within))
 
--- when a token is cut off the bytes and added to the list, the tokens in the list and those of the remaining bytes are together the same as before
+-- when a token is cut off the front of the bytes and added to the list, the tokens in the list, followed by those of the remaining bytes, are the
+-- same as before
 pub cut_off : (kind : TokenKind) (n position : ℕ) (bytes rest : List ℕ) (list new : List Token) → Cut kind n ≡ first bytes → IsPieceWithin (Cut kind n) (length bytes) → rest ≡ drop n bytes
     → new ≡ list ++ record { kind = kind; start = position; length = n } ∷ []
     → with_front new (tokens_after 0 (position + n) rest) ≡ with_front list (tokens_after 0 position bytes)

@@ -74,8 +74,8 @@ abbrev pub first : List ℕ → Piece
 first [] = Fault 0
 first (b ∷ bytes) = front b bytes
 
--- The number of bytes of a blank, a comment or a token. The 0 for a byte that isn't allowed has no effect: `with_piece` doesn't use the tokens that
--- follow in this case.
+-- The number of bytes of a blank, a comment or a token. The 0 for a byte that isn't allowed has no effect: in this case `with_piece` doesn't use the
+-- tokens that follow.
 abbrev pub piece_size : Piece → ℕ
 piece_size (Gap n) = n
 piece_size (Cut kind n) = n

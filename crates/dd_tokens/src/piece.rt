@@ -52,8 +52,8 @@ fn digits(bytes: &[u8]) -> usize
     bytes.iter().take_while(|byte| is_digit(**byte)).count()
 }
 
-/// How many of the bytes after the first hyphen of a comment come before its end, or before the first byte that it may not
-/// contain.
+/// How many of the bytes after a comment's first hyphen come before the comment's end, or before the first byte that isn't
+/// allowed in it.
 fn comment_bytes(bytes: &[u8]) -> usize
     ensures value { result ≡ prefix_len is_comment_byte bytes.now }
     ensures within { result ≤ length bytes.now }
@@ -86,14 +86,14 @@ fn starts_positive(bytes: &[u8]) -> bool
     matches!(bytes, [b'1'..=b'9', ..])
 }
 
-/// Whether `byte` begins a mark of two bytes, `->` or `!=`, given the bytes `after` that follow `byte`.
+/// Whether `byte` begins a mark of two bytes, `->` or `!=`, given `after`, the bytes that follow `byte`.
 fn is_two_byte_mark(byte: u8, after: &[u8]) -> bool
     ensures { result ≡ is_two_byte_mark byte after.now }
 {
     (byte == b'-' && matches!(after, [b'>', ..])) || (byte == b'!' && matches!(after, [b'=', ..]))
 }
 
-/// The piece that begins with `byte`, given the bytes `after` that follow `byte`.
+/// The piece that begins with `byte`, given `after`, the bytes that follow `byte`.
 fn front(byte: u8, after: &[u8]) -> Piece
     requires { length after.now ≤ most_script }
     ensures value { result ≡ front byte after.now }

@@ -1,6 +1,6 @@
 -- Counts. A source, from which bytes are read, and a sink, to which they are written, count their faults. A fault is a call that failed. An engine of
--- dd_engines counts how often it was asked, and how often it proposed something. A count is a 64-bit number. It never falls, and it stays at 2^64 - 1
--- once it is there.
+-- dd_engines counts how many times it was asked, and how many times it proposed something. A count is a 64-bit number. It never falls, and it stays
+-- at 2^64 - 1 once it is there.
 use Rattle.std.specs.Prelude.{ℕ, ◌+◌, ◌-◌, ◌^◌, ◌≤◌, min, Result, OnErr}
 
 -- The count rose: it is greater than before, or it is 2^64 - 1.

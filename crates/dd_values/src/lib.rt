@@ -4,8 +4,8 @@
 //!
 //! A script is a text that consists of commands, some of which are queries. Each position of Z^d has one or more nodes. A cell
 //! is a position together with one of its nodes. Edges join some cells. The ball of radius r around a cell consists of the
-//! cells that a path of at most r edges joins to it. A discharging query has two numbers, its radius and its margin (see
-//! `dd_discharge`). An engine is any value that, for a list of clauses, may propose an assignment or a refutation.
+//! cells that are joined to it by a path of at most r edges. A discharging query has two numbers, its radius and its margin
+//! (see `dd_discharge`). An engine is any value that, for a list of clauses, may propose an assignment or a refutation.
 #![tactic(auto)]
 
 mod bounds;

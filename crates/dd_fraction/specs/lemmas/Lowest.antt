@@ -136,7 +136,7 @@ over_one : (n : ℤ) → int_div n (pos 1) ≡ n
 over_one (pos n) = ap pos (div-one n)
 over_one (negsuc n) = ap (λ (x : ℕ). neg_ℤ (pos x)) (div-one (suc n))
 
--- bringing a fraction to lowest terms changes nothing if it is in lowest terms already
+-- reducing a fraction to lowest terms changes nothing if it is in lowest terms already
 pub low_lowest : (a : Exact) → IsLowest a → low a ≡ a
 low_lowest a p =
     lowest_at a.num a.den p.positive

@@ -10,7 +10,7 @@ use Rattle.dd_fraction.specs.Checked.{IsFraction, is_bounded, bounded, bounded_s
 use Rattle.dd_fraction.specs.lemmas.Divisors.{greatest_common-is, greatest_common-step, greatest_common-zero, quotients_coprime, quotient_above}
 use Rattle.dd_fraction.specs.lemmas.Lowest.{size_over, lowest_at, low_lowest}
 
--- ---- bringing bounded numbers to lowest terms gives bounded numbers
+-- ---- reducing bounded numbers to lowest terms gives bounded numbers
 pub lowest_fraction : (n : ℤ) (d : ℕ) → 0 < d → d < 2 ^ 127 → unsigned_abs n < 2 ^ 127
     → let g = greatest_common (unsigned_abs n) d in IsFraction (record { num = int_div n (pos g); den = d / g })
 lowest_fraction n d p q r =

@@ -5,7 +5,7 @@ use Rattle.std.proofs.KnownBytes.{Appends-trans, Appends-kept, Consumes-trans}
 use Rattle.std.specs.{declared.option.Option.Option, Io.KnownBytes.Appends, Io.KnownBytes.Consumes, Io.KnownBytes.Keeps}
 use Rattle.dd_outside.specs.Bytes.{GainsFront, GivesAtMost, ReadsOn}
 
--- the first `at` bytes of a piece were written, and then the next `n`; so together the first `at + n` were
+-- the first `at` bytes of a piece were written, and then the next `n`; so, in all, the first `at + n` were written
 pub wrote_more : (a b c : Option (List ℕ)) (piece : List ℕ) (at n : ℕ) → Appends a b (take at piece) → Appends b c (take n (take (length piece - at) (drop at piece))) → Appends a c (take (at + n) piece)
 wrote_more a b c piece at n so_far next =
     let rest : Appends b c (take n (drop at piece)) = rw take_rest at next in
@@ -20,7 +20,7 @@ wrote_front a b c piece at so_far kept = record {
   whole = sym (take-append-drop at piece);
 }
 
--- one text was written whole, and then a prefix of another; so a prefix of the two texts joined was written
+-- one text was written whole, and then a prefix of another; so a prefix of their concatenation was written
 pub front_after : (a b c : Option (List ℕ)) (before text : List ℕ) → Appends a b before → GainsFront b c text → GainsFront a c (before ++ text)
 front_after a b c before text so_far more = record {
   gained = before ++ more.gained;

@@ -23,7 +23,7 @@ Contains-nil q c = absurd (let below = c.1 in omega arith)
 pub All-from_contains : {X : Type 0} (P : X → Type 0) (xs : List X) → ((q : X) → Contains xs q → P q) → All P xs
 All-from_contains P xs h = All-weaker (Contains xs) P h xs (All-contains_itself xs)
 
--- if each member of one ascending list comes before each member of another, the two lists joined are ascending
+-- if each member of one ascending list comes before each member of another, their concatenation is ascending
 pub sorted_append : {K : Type 0} (R : K → K → Ordering) (xs ys : List K) → IsStrictlySortedBy R xs → IsStrictlySortedBy R ys →
     ((p q : K) → Contains xs p → Contains ys q → R p q ≡ Less) → IsStrictlySortedBy R (xs ++ ys)
 unfolding IsStrictlySortedBy
