@@ -15,7 +15,7 @@ use Rattle.dd_certificate.specs.declared.answer.Answer.{Answer}
 use Rattle.dd_contain.specs.{declared.decision.Decision.Decision, Decided.IsLeast, Questions.Displays, Questions.IsDecided}
 use Rattle.dd_contain.specs.Equal.{joined, UnlessNo}
 use Rattle.dd_question.specs.{Questions.Asked, Conjugacies.ConjugacyOf, Conjugacies.IsPart}
-use Rattle.dd_evidence.specs.Tiles.{given_periods, written_periods, IsWrittenBack}
+use Rattle.dd_evidence.specs.Tiles.{given_periods, written_periods, IsReadBack}
 use Rattle.dd_respond.specs.Right.{IsRightTo, IsRightBox, IsRightEqual, written_decision, written_equality}
 use Rattle.dd_respond.specs.Conjugacies.{ComesTo, IsRightConjugacy, first_no, all_yes, some_open}
 use Rattle.dd_respond.specs.Bounds.{IsRightDensity, right_least, right_empty, IsRightDischarge, right_bound, is_large, overflows, used_up}
@@ -52,7 +52,7 @@ least_is x along ws a (has_least {t = t} least lives refuted) =
 least_is x along ws a (has_none none refuted) = torus_none refuted
 
 abbrev AreWrittenBack : Type 0
-AreWrittenBack = (x : LocalRule) (t : Tile) → IsTile t → Fits x t → IsWrittenBack x t
+AreWrittenBack = (x : LocalRule) (t : Tile) → IsTile t → Fits x t → IsReadBack x t
 
 module _ (back : AreWrittenBack) (l : Limits) where
   yes_of : (x : LocalRule) (g : GoalOf) (least n : ℕ) (steps : List Step) → IsLeastRadius g least → IsLeast (Suffices x g) least (max l.radius least) n →

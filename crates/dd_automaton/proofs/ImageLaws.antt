@@ -65,9 +65,9 @@ tile_is_below n t h c = by (nat_lt c.node t.nodes)
     by true = below_at n t.symbols h (tile_index t c)
     by false = tt
 
--- Let s be a dimension, the configuration's number of nodes and the size of an alphabet. Let each cell of a list be near the origin (`is_near`) and
--- be a cell of s (`is_cell_of`). Then each of these cells, shifted by the position of a cell of the box, has coordinates of at most 2^20 in absolute
--- value, and has a symbol.
+-- Let s consist of a dimension, the configuration's number of nodes and the size of an alphabet. Let each cell of a list be near the origin
+-- (`is_near`) and be a cell of s (`is_cell_of`). Then each of these cells, shifted by the position of a cell of the box, has coordinates of at most
+-- 2^20 in absolute value, and has a symbol.
 pub given_all : (t : Tile) (s : CommonNumbers) → IsPeriodic t → s.nodes ≡ t.nodes → (c : Cell) → IsInBox t c → (ds : List Cell) → list_all is_near ds ≡ true → list_all (is_cell_of s) ds ≡ true →
     are_given (tile_look t) c.position ds ≡ true
 given_all t s ok same c h [] near placed = refl

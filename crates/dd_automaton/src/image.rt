@@ -7,9 +7,9 @@ use dd_pattern::Periodic;
 use std::alloc::{AllocError, Global};
 
 /// The image of the configuration under the automaton. It has the automaton's value at every cell, and the configuration's
-/// periods and shear. If a node allows only some of the symbols, the value at a cell with this node may still be another one.
-/// The automaton must be well formed over the configuration's dimension and number of nodes and over an alphabet that has all
-/// symbols of the configuration.
+/// periods and shear. If a node allows only some of the symbols, the value at a cell with this node may still be a symbol that
+/// the node doesn't allow. The automaton must be well formed over the configuration's dimension and number of nodes and over an
+/// alphabet that has all symbols of the configuration.
 ///
 /// # Errors
 /// `AllocError` if memory ran out.

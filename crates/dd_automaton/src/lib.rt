@@ -7,8 +7,8 @@
 //! image under the inner automaton.
 //!
 //! An automaton is well formed over a dimension, a number of nodes and an alphabet if all of these hold: there is at least one
-//! node, all rules in the automaton have this dimension, number of nodes and alphabet, all symbols of its cases and all its
-//! default symbols are in the alphabet, and the automaton and all its parts are within the limits that `dd_formula` sets.
+//! node; all rules in the automaton have this dimension, number of nodes and alphabet; all symbols of its cases and all its
+//! default symbols are in the alphabet; and the automaton and all its parts are within the limits that `dd_formula` sets.
 //!
 //! A periodic configuration repeats along the vectors `(x, 0, 0)`, `(shear, y, 0)` and `(0, 0, z)`. The numbers `x`, `y` and
 //! `z` are its periods, and `shear` is its shear. Its fundamental box is the box that repeats. On each axis the coordinates in

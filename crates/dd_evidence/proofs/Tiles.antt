@@ -3,7 +3,7 @@ use Rattle.std.proofs.Common.{◌≡◌, ℕ, zero, suc, ◌<◌, ◌≤◌, [],
 use Rattle.std.proofs.lemmas.List.{length-take-le}
 use Rattle.dd_pattern.specs.{declared.periods.Periods.Periods, Tile.Tile, Tile.tile, Tile.IsTile}
 use Rattle.dd_formula.specs.{LocalRule.LocalRule, Living.Fits}
-use Rattle.dd_evidence.specs.Tiles.{given_periods, written_periods, IsWrittenBack}
+use Rattle.dd_evidence.specs.Tiles.{given_periods, written_periods, IsReadBack}
 
 abbrev sheared : ℕ → ℕ → ℕ → ℕ → Periods
 sheared x y z shear = record { x = x; y = y; z = z; shear = shear }
@@ -16,8 +16,8 @@ periods_back (suc (suc zero)) x y z shear low high no_y no_z = ap (λ c. sheared
 periods_back (suc (suc (suc zero))) x y z shear low high no_y no_z = refl
 periods_back (suc (suc (suc (suc d)))) x y z shear low high no_y no_z = absurd (omega arith)
 
-pub written_back : (x : LocalRule) (t : Tile) → IsTile t → Fits x t → IsWrittenBack x t
-written_back x t ok fits =
+pub read_back : (x : LocalRule) (t : Tile) → IsTile t → Fits x t → IsReadBack x t
+read_back x t ok fits =
     let p = t.periods in
     let are = ok.periods in
     let periods : given_periods (written_periods t) p.shear ≡ p =

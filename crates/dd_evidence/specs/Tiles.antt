@@ -17,7 +17,7 @@ given_tile x along shear symbols = tile x.dimension (given_periods along shear) 
 abbrev pub written_periods : Tile → List ℕ
 written_periods t = take t.dimension (t.periods.x ∷ t.periods.y ∷ t.periods.z ∷ [])
 
--- an answer writes one period per dimension, and the configuration can be read back from what the answer writes
-pub record IsWrittenBack (x : LocalRule) (t : Tile) : Type 0 where
+-- an answer writes one period for each axis of Z^d, and the configuration can be read back from what the answer writes
+pub record IsReadBack (x : LocalRule) (t : Tile) : Type 0 where
   pub as_many : length (written_periods t) ≡ x.dimension
   pub same : given_tile x (written_periods t) t.periods.shear t.symbols ≡ t

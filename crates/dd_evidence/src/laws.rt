@@ -11,14 +11,14 @@ ghost use Rattle.dd_forbidden.specs.Breaking.{IsBreaking};
 ghost use Rattle.dd_minimal.specs.Minimal.{IsMinimalList};
 ghost use Rattle.dd_question.specs.Lists.{HasFewPatterns};
 ghost use Rattle.dd_evidence.specs.Cells.{IsOutside};
-ghost use Rattle.dd_evidence.specs.Tiles.{IsWrittenBack};
+ghost use Rattle.dd_evidence.specs.Tiles.{IsReadBack};
 ghost use Rattle.dd_evidence.specs.Lists.{listed, IsForbiddenList, IsStarredList, patterns_at};
 
 /// Does nothing. Its contract is about a configuration that fits a rule: it has the rule's dimension, the rule's number of
-/// nodes, and only symbols of the rule's alphabet. The contract says that an answer writes one period for each dimension, and
+/// nodes, and only symbols of the rule's alphabet. The contract says that an answer writes one period for each axis of Z^d, and
 /// that the configuration can be read back from the rule and the numbers that the answer writes.
-pub fn written_back()
-    ensures { (x : LocalRule) (t : Tile) → IsTile t → Fits x t → IsWrittenBack x t }
+pub fn read_back()
+    ensures { (x : LocalRule) (t : Tile) → IsTile t → Fits x t → IsReadBack x t }
 {}
 
 /// Does nothing. Its contract is about a configuration that fits a rule, and whose fundamental box (the box that repeats) has

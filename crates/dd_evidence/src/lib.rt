@@ -7,8 +7,8 @@
 //!
 //! A pattern gives allowed symbols to all, some or none of the cells that the rule reads at a node, and leaves out the others.
 //! It is forbidden if the rule is false at the node, whatever allowed symbols the other cells have. A forbidden pattern is
-//! minimal if it is no longer forbidden once any further cell is left out. For each node, `dd_minimal` defines one list of
-//! minimal patterns, the minimal list. Its patterns together forbid exactly what the rule forbids at the node. The list need
+//! minimal if leaving out any further cell gives a pattern that isn't forbidden. For each node, `dd_minimal` defines one list
+//! of minimal patterns, the minimal list. Its patterns together forbid exactly what the rule forbids at the node. The list need
 //! not contain all minimal patterns. An answer about forbidden patterns gives the breaking fillings, node by node. These are
 //! the forbidden patterns that leave out no cell. An answer about minimal patterns has the minimal list of each node.
 #![tactic(auto)]
@@ -18,8 +18,8 @@ mod listing;
 mod starring;
 
 pub use laws::{
-    listed_break, lists_fit, one_list, one_starred, places_fit, starred_are_minimal, starred_fit,
-    written_back,
+    listed_break, lists_fit, one_list, one_starred, places_fit, read_back, starred_are_minimal,
+    starred_fit,
 };
 pub use listing::forbidden_patterns;
 pub use starring::minimal_patterns;

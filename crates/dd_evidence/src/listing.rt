@@ -61,9 +61,9 @@ fn push_node(
 }
 
 /// The patterns that a rule forbids, node by node. At a node these are the breaking fillings: the cells that the rule reads
-/// there have allowed symbols, and with these symbols the rule is false. They are in lexicographic order of their symbols. If a
-/// rule reads nothing at a node and is false there, it forbids the pattern without symbols. At each node the cells that the
-/// rule reads must have at most 65,536 fillings.
+/// there have allowed symbols, and with these symbols the rule is false. The fillings of a node are in lexicographic order of
+/// their symbols. If a rule reads nothing at a node and is false there, it forbids the pattern without symbols. At each node
+/// the cells that the rule reads must have at most 65,536 fillings.
 ///
 /// # Errors
 /// `AllocError` if memory ran out.

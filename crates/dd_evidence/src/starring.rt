@@ -68,9 +68,9 @@ fn push_starred(
     Ok(())
 }
 
-/// The minimal lists of a rule, node by node. No further cell can be left out of any of their patterns. At each node, the
-/// patterns together forbid exactly what the rule forbids there. A list need not contain all minimal patterns. At each node the
-/// cells that the rule reads must have at most 65,536 fillings.
+/// The minimal lists of a rule, node by node. Each of their patterns is minimal. At each node, the patterns together forbid
+/// exactly what the rule forbids there. A list need not contain all minimal patterns. At each node the cells that the rule
+/// reads must have at most 65,536 fillings.
 ///
 /// # Errors
 /// `AllocError` if memory ran out.

@@ -1,4 +1,4 @@
--- Outputs whose answers are certificates. A certificate is an answer that the check accepts, and what it claims is true.
+-- Outputs whose answers are certificates. A certificate is an answer that the check accepts. What a certificate claims is true.
 use Rattle.std.specs.Prelude.{◌≡◌, ℕ, ◌-◌, ◌≤◌, List, length, IsSomeAnd, Bool, IsTrue, ◌↔◌}
 use Rattle.std.specs.List.{slice_get}
 use Rattle.dd_certificate.specs.declared.answer.Answer.{Answer}

@@ -19,7 +19,7 @@ use std::alloc::{AllocError, Global};
 
 /// Why there is no answer.
 #[derive(Debug, Drop)]
-pub enum Unasked {
+pub enum Unanswered {
     /// There are more than 4 nodes, no symbols, or more than 16 symbols.
     Numbers,
     /// The formula names something that doesn't exist, or exceeds a limit on moves, balls, radii or depth.
@@ -34,21 +34,21 @@ pub enum Unasked {
     Memory,
 }
 
-impl From<AllocError> for Unasked {
-    fn from(_error: AllocError) -> Unasked {
-        Unasked::Memory
+impl From<AllocError> for Unanswered {
+    fn from(_error: AllocError) -> Unanswered {
+        Unanswered::Memory
     }
 }
 
-impl From<RuleFault> for Unasked {
-    fn from(fault: RuleFault) -> Unasked {
-        Unasked::Rule(fault)
+impl From<RuleFault> for Unanswered {
+    fn from(fault: RuleFault) -> Unanswered {
+        Unanswered::Rule(fault)
     }
 }
 
-impl From<QuestionFault> for Unasked {
-    fn from(fault: QuestionFault) -> Unasked {
-        Unasked::Question(fault)
+impl From<QuestionFault> for Unanswered {
+    fn from(fault: QuestionFault) -> Unanswered {
+        Unanswered::Question(fault)
     }
 }
 
@@ -59,16 +59,16 @@ fn rule_of(
     labels: u32,
     symbols: u32,
     formula: Formula,
-) -> Result<Rule, Unasked>
+) -> Result<Rule, Unanswered>
     requires { length topology.now.labels ≡ labels }
     ensures { IfOk result (λ rule. rule ≡ local_rule topology.now (all_symbols topology.now.nodes symbols) formula) }
 {
     let nodes = topology.nodes();
     if nodes > 4 || symbols == 0 || symbols > 16 {
-        return Err(Unasked::Numbers);
+        return Err(Unanswered::Numbers);
     }
     if !is_formula(topology, labels, symbols, &formula) {
-        return Err(Unasked::Formula);
+        return Err(Unanswered::Formula);
     }
     let sets = Sets::new(alloc, nodes, symbols)?;
     Ok(Rule::new(alloc, topology, &sets, formula)?)
@@ -77,7 +77,7 @@ fn rule_of(
 /// A right answer to a question. The call fails if the limits are out of range, if the question's parts don't fit together, if
 /// the question exceeds a limit on its work, or if memory runs out. The roster has no engines, so none is asked before the
 /// search.
-fn answer_to(alloc: Global, question: Question, limits: &Limits) -> Result<Answer, Unasked>
+fn answer_to(alloc: Global, question: Question, limits: &Limits) -> Result<Answer, Unanswered>
     ensures { IfOk result (λ answer. IsRightTo limits.now (asked_of question.entry) answer) }
 {
     let checked = question.check(alloc, limits)?;
@@ -86,7 +86,7 @@ fn answer_to(alloc: Global, question: Question, limits: &Limits) -> Result<Answe
 }
 
 /// The rule of hard squares, made with all its conditions tested.
-fn tested_squares(alloc: Global) -> Result<Rule, Unasked>
+fn tested_squares(alloc: Global) -> Result<Rule, Unanswered>
     ensures { IfOk result (λ rule. rule ≡ hard) }
 {
     let topology = Topology::builtin(alloc, Kind::Square)?;
@@ -95,7 +95,7 @@ fn tested_squares(alloc: Global) -> Result<Rule, Unasked>
 }
 
 /// The right answer to the question whether the chessboard is a configuration of hard squares.
-pub fn chessboard_answer(alloc: Global, limits: &Limits) -> Result<Answer, Unasked>
+pub fn chessboard_answer(alloc: Global, limits: &Limits) -> Result<Answer, Unanswered>
     ensures { IfOk result (IsRightTo limits.now (membership hard chessboard)) }
 {
     let rule = tested_squares(alloc)?;

@@ -54,7 +54,7 @@ impl Fault {
         match self {
             Fault::Words => "give one of the words answer, check and squares, or no word",
             Fault::Input => "the input can't be read or is too long",
-            Fault::Script => "not a script",
+            Fault::Script => "the script is refused",
             Fault::Output => "not an output of diddy",
             Fault::Memory => "out of memory",
         }

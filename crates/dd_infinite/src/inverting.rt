@@ -44,9 +44,9 @@ fn is_conjugate(answer: &Answer) -> bool
 /// - the answer is CONJUGATE, and the check accepts it for this query.
 ///
 /// Suppose that this is so, and that the configuration obeys the query's first rule everywhere. Then, at `place`, its image
-/// under the query's first automaton has allowed symbols and obeys the second rule. Also at `place`, the second automaton takes
-/// the image back to the configuration's symbols. All this also holds with the two rules exchanged and the two automata
-/// exchanged. `Ok(false)` says nothing about the configuration.
+/// under the query's first automaton has allowed symbols, and the second rule is true of the image. Also at `place`, the second
+/// automaton takes the image back to the configuration's symbols. All this also holds with the two rules exchanged and the two
+/// automata exchanged. `Ok(false)` says nothing about the configuration.
 ///
 /// The configuration must have the script's number of nodes, and at each cell of Z^d a symbol that the cell's node allows.
 ///

@@ -10,7 +10,7 @@ use std::alloc::AllocError;
 use std::process::ExitCode;
 use std::{env, io};
 
-/// The exit code if the arguments can't be read for a reason other than lack of memory. The codes 0 to 7 are those of `Status`.
+/// The exit code if reading the arguments fails for a reason other than lack of memory. The codes 0 to 7 are those of `Status`.
 const UNREADABLE_WORDS: u8 = 8;
 
 /// The most flips that the engine `Walker` makes each time it is asked. A flip changes the value of one variable.
@@ -20,7 +20,7 @@ const FLIPS: u32 = 10_000;
 enum WordsFault {
     /// Memory ran out.
     Memory,
-    /// The arguments can't be read for another reason.
+    /// Another reason.
     Other,
 }
 

@@ -1,5 +1,5 @@
--- The tokens of a text that follows another text, of a number before a bracket, and of symbols. Bytes are written as codes: 10 is a line feed, 32 is
--- a space, 48 to 57 are the digits, and 93 is the closing bracket.
+-- The tokens of three kinds of text: one that follows another text, a number before a bracket, and symbols. Bytes are written as codes: 10 is a line
+-- feed, 32 is a space, 48 to 57 are the digits, and 93 is the closing bracket.
 use Rattle.std.proofs.Common.{◌≡◌, ℕ, zero, suc, ◌+◌, ◌-◌, ◌*◌, ◌<◌, ◌≤◌, List, [], ◌∷◌, ◌++◌, length, map, true, codes, refl, sym, ap, subst, ◌∙◌, arith}
 use Rattle.std.specs.List.{prefix_len, repeat}
 use Rattle.dd_tokens.specs.declared.{token.Token.Token, token.Tokens.Tokens, piece.Piece.Piece}

@@ -70,8 +70,8 @@ dom_few = rule_faultless dom_counts refl
 -- ---- questions
 
 -- A box question of a sample asks whether every configuration that obeys one rule, the premise, also obeys another one, the goal's rule. `long_by`
--- says whether a bound for the number of its clauses is greater than the limit. The bound is computed from the premise, the number of clauses of the
--- premise, the number of clauses of the goal's rule, and the cells that the goal's rule reads.
+-- says whether a bound on the number of the question's clauses is greater than the limit. The bound is computed from the premise, the number of
+-- clauses of the premise, the number of clauses of the goal's rule, and the cells that the goal's rule reads.
 abbrev long_by : LocalRule → ℕ → ℕ → List Cell → Bool
 long_by x clauses goal cells =
     nat_lt most_clauses (largest_region x.dimension (max 3 (farthest (in_order cells ++ []))) 3 * (x.nodes * cell_clause_count x.symbols + disallowed_pairs x + (clauses + 0)) + (goal + 0 + 1))

@@ -20,7 +20,7 @@ use Rattle.dd_written.specs.declared.tree.Name.TheVariants as name
 
 -- ---- the parts of the lexemes: a part is what follows one percent sign, up to the next
 
--- the parts of these lexemes and of those that follow them, if q are the parts of those that follow
+-- the parts of these lexemes and of those that follow them, if q holds the parts of those that follow
 abbrev parts_onto : List Lexeme → List Lexeme × List (List Lexeme) → List Lexeme × List (List Lexeme)
 parts_onto [] q = q
 parts_onto (lexeme.Mark mark.Percent ∷ ts) q = ([], (parts_onto ts q).0 ∷ (parts_onto ts q).1)

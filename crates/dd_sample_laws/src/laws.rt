@@ -1,4 +1,4 @@
-//! Each sample is a script.
+//! Each sample spells a script.
 ghost use Rattle.std.specs.Prelude.{ℕ};
 ghost use Rattle.dd_sample.specs.Sample.{IsSampleNumber, sample_text};
 ghost use Rattle.dd_script.specs.Parts.{Parts};

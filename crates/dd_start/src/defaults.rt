@@ -60,8 +60,8 @@ pub fn numbers_below(alloc: Global, count: u32) -> Result<Vec<u32>, AllocError>
     (0..count).collect(alloc)
 }
 
-/// Lets each node allow each symbol, as at first. Then no node is restricted. There must be at least one node and one symbol.
-/// Returns `AllocError` if memory runs out.
+/// Makes every node allow every symbol, as at first. Afterwards no node is restricted. There must be at least one node and one
+/// symbol. Returns `AllocError` if memory runs out.
 pub fn allow_all(alloc: Global, known: &mut Known) -> Result<(), AllocError>
     requires nodes { 1 ≤ length known.old.setting.nodes }
     requires symbols { 1 ≤ length known.old.setting.symbols }

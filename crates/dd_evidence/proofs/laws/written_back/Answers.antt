@@ -1,5 +1,5 @@
-use Rattle.dd_evidence.proofs.Tiles.{written_back}
-use Rattle.dd_evidence.proofs.laws.written_back.Goals as goal
+use Rattle.dd_evidence.proofs.Tiles.{read_back}
+use Rattle.dd_evidence.proofs.laws.read_back.Goals as goal
 
 pub returns : goal.returns
-returns c = written_back
+returns c = read_back
