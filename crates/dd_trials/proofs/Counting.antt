@@ -1,5 +1,5 @@
--- Suppose that at most 1000 clauses are counted for each position, and at most 1000 for the goal. Then the bound on the number of a question's
--- clauses is at most 2,000,000 on the box of radius 0 or 1 on the line, and on the box of radius 0 in the plane.
+-- Suppose that at most 1000 clauses are counted for each position, and at most 1000 for the goal. Then the bound on the number of clauses of a
+-- question is at most 2,000,000 on the box of radius 0 or 1 on the line, and on the box of radius 0 in the plane.
 use Rattle.std.proofs.Common.{◌≡◌, ℕ, zero, suc, ap, ◌+◌, ◌*◌, ◌≤◌, arith}
 use Rattle.dd_lattice.specs.Boxes.{centred, volume}
 use Rattle.dd_formula.specs.{LocalRule.LocalRule, Counts.place_clauses}

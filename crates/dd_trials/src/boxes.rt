@@ -38,7 +38,7 @@ fn symbol(is_zero: bool, is_one: bool) -> Option<usize>
     }
 }
 
-/// The filling that the inputs of `cells` cells give, as its number (see `filling`); `None` unless exactly one input of each
+/// The number (see `filling`) of the filling that the inputs of `cells` cells give; `None` unless exactly one input of each
 /// cell is true. `values` begins with the values of these inputs, two for each cell.
 fn filling_number(values: &[bool], cells: usize) -> Option<usize> {
     let mut number = 0usize;
@@ -181,7 +181,7 @@ fn admissible(alloc: Global, rule: &Rule, goal: &Goal, cells: &[Cell]) -> Result
         1 => 2,
         2 => 4,
         3 => 8,
-        _ => return Err("three cells at most".into()),
+        _ => return Err("more than three cells".into()),
     };
     let mut wanted = [0; 8];
     for (number, times) in (0..fillings).zip(wanted.iter_mut()) {

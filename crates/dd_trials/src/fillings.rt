@@ -56,8 +56,8 @@ pub(crate) fn at_origin(node: u32) -> Cell
     }
 }
 
-/// Whether the rule is true at a cell; `None` if the filling lacks a cell that the rule reads there. Fails if no position of
-/// the rule's lattice has the cell's node.
+/// Whether the rule is true at a cell; `None` if the filling lacks a cell that the rule reads there. Fails if the cell's node
+/// isn't one of the rule's nodes.
 #[tactic(auto, using(dd_formula::specs::lemmas::Reached::filling_below))]
 pub(crate) fn truth(rule: &Rule, filling: &Filling, at: &Cell) -> Result<Option<bool>, Fail>
     requires { All (λ s. s < rule.now.symbols) filling.now.symbols }

@@ -50,7 +50,7 @@ const SIGNALS: &[(i32, u32, Option<u32>)] = &[
 fn inputs_by_cell_and_symbol(rt: HostRuntime) -> Result<(), Fail> {
     let inputs = two_cells(rt.alloc())?;
     for (x, symbol, variable) in SIGNALS {
-        let cell = cell_at(*x).ok_or("in range")?;
+        let cell = cell_at(*x).ok_or("a cell in range")?;
         let signal = inputs.get(&cell, *symbol);
         assert_eq!(rt; signal, variable.map(plus), "at {x}, {symbol}");
     }

@@ -47,8 +47,8 @@ fn reaches(alloc: Global, premise: &Rule, goal: &Goal, radius: u32) -> Result<bo
     Ok(least_radius(alloc, goal)? <= radius)
 }
 
-/// The clauses of a box question on a small box. The radius must be 0 or 1 on the line, and 0 in the plane. Fails if the box is
-/// any other one, if it lacks a cell that the goal reads, or if a position or the goal has more than 1000 clauses.
+/// The clauses of a box question on a small box. The radius must be 0 or 1 on the line, and 0 in the plane. Fails for any other
+/// box, for a box that lacks a cell that the goal reads, and if a position or the goal has more than 1000 clauses.
 #[tactic(auto, using(crate::proofs::Counting::few_in_a_box, crate::proofs::Counting::few_at_the_origin))]
 pub(crate) fn clauses_of(
     alloc: Global,

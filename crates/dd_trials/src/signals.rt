@@ -122,8 +122,8 @@ fn value_of(
     Ok(value.ok_or("a variable of the circuit")? == signal.positive)
 }
 
-/// For each filling of the cells that the rule reads at a node of the origin, or for 1001 of them if there are more than 1000:
-/// the truth of the rule there, and the value of its signal.
+/// For each filling of the cells that the rule reads at a node of the origin, or for 1001 of these fillings if there are more
+/// than 1000: the truth of the rule at the node, and the value of its signal.
 fn truths(alloc: Global, rule: &Rule, node: u32) -> Result<Vec<(Option<bool>, bool)>, Fail>
     requires { node < rule.now.nodes }
 {

@@ -79,7 +79,7 @@ const DISCHARGES: [(&str, &str); 16] = [
         "%dim 1 %limits 4 4 0 %rule cover o=1 | o.rt=1 %density cover [] %discharge cover 0 0 [1]",
         "query 1 DENSITY 1/2\nquery 2 UNKNOWN pivots\n",
     ),
-    // The region has 30 cells. The first 17 of them have 131,072 fillings, which are too many.
+    // The region has 30 cells. The first 17 of them have 131,072 fillings, which is too many.
     (
         "%rule full o@o %discharge full 2 0 [1 0]",
         "query 1 UNKNOWN large\n",

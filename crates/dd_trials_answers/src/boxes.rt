@@ -1,4 +1,4 @@
-// Answers to box questions, most of them compared by their first lines.
+// Answers to box questions. For most of them, only the first lines are compared.
 use crate::outputs::{assert_answers, assert_lines};
 use std::test::Fail;
 

@@ -1,4 +1,4 @@
-// Tests of two kinds of query: what runs answer, and which answers a check accepts. `%maps f x y` asks whether f maps each
+// Tests of two kinds of query: how runs answer them, and which answers a check accepts. `%maps f x y` asks whether f maps each
 // configuration that obeys the rule x to one that obeys the rule y. `%conjugate f g x y` asks four questions. Does f map x into
 // y? Does g map y into x? Does f followed by g leave each configuration of x as it is? Does g followed by f leave each
 // configuration of y as it is? CONJUGATE gives a radius for each question. BROKEN gives the number of a question whose answer

@@ -17,7 +17,7 @@ const DENSITIES: [(&str, &str); 15] = [
         "%rule dom Ep[o1] p=1 %density dom [5]",
         "query 1 DENSITY 1/5\n",
     ),
-    // Of these graphs, this one has the most slices to try: 256 after each of its 256 states.
+    // Of the transfer graphs in this table, this one has the most slices to try: 256 after each of its 256 states.
     (
         "%rule hard o=1 -> (o.rt=0 & o.up=0) %density hard [8]",
         "query 1 DENSITY 0/1\n",

@@ -42,7 +42,7 @@ const ROWS: &[(usize, u32, bool)] = &[
     (2, 3, false),
 ];
 
-// The points of the line at which each row is tested.
+// The positions on the line at which each row is tested.
 const PLACES: &[i32] = &[-1_000_000, 0, 1];
 
 fn script_of(alloc: Global, bytes: &[u8]) -> Result<Script, Fail> {
@@ -125,7 +125,7 @@ fn assert_functions(
     answers: &[Answer],
 ) -> Result<(), Fail> {
     if !allows_both(script) {
-        return Err("not a single node that allows both symbols".into());
+        return Err("more than one node, or a node that doesn't allow both symbols".into());
     }
     assert_rows(rt, alloc, script, answers, &Spike)?;
     assert_rows(rt, alloc, script, answers, &Checkerboard)

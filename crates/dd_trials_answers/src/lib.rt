@@ -1,9 +1,9 @@
 //! Tests of answers. A run reads a script and writes an output, which has an answer to each query. A check reads an output, and
 //! accepts all of its answers or rejects one. An UNKNOWN has a reason, such as `limits`. It needs no evidence, but a check
-//! accepts it only if the query is of a kind that can have this reason. Most tests ask what runs answer to each kind of query,
-//! and which answers a check accepts. Some ask what accepted answers exclude from configurations, periodic or not. Others ask
-//! which scripts are refused, or which words of a command line ask for a sample. A sample is a script that the program itself
-//! makes. These tests use only the public items of the crates that they test.
+//! accepts it only if queries of this kind can have an UNKNOWN with this reason. Most tests ask how runs answer each kind of
+//! query, and which answers a check accepts. Some ask what accepted answers exclude from configurations, periodic or not.
+//! Others ask which scripts are refused, or which words of a command line ask for a sample. A sample is a script that the
+//! program itself makes. These tests use only the public items of the crates that they test.
 //!
 //! Each position of Z^d has one or more nodes. A cell is a position together with one of its nodes. A configuration gives a
 //! symbol to each cell, and obeys a rule if the rule is true at every cell. A rule reads the cells whose symbols its formula

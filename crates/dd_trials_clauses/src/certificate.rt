@@ -166,8 +166,8 @@ fn refuses_altered_texts(rt: HostRuntime) -> Result<(), Fail> {
     Ok(())
 }
 
-/// Texts that follow the first 26 bytes of an output, which end with `query 1 `. With each text comes the length of its longest
-/// prefix that an output could have there.
+/// Each text follows the first 26 bytes of an output. These bytes end with `query 1 `. With each text comes the length of its
+/// longest prefix that an output could have there.
 const FAULTY: &[(&str, u32)] = &[
     ("NOR\n", 2),
     ("NONE\n", 5),

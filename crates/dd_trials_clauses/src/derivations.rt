@@ -144,7 +144,7 @@ const STEPS_IN_TURN: &[(&[i32], bool)] = &[
         &[1, 0, 6, 3, 0, 0, 2, 0, 6, 4, 0, 7, 0, 0, 7, 8, 2, 0, 0],
         false,
     ),
-    // a step that deletes itself
+    // a step that deletes its own clause
     (&[1, 0, 6, 3, 0, 7, 0, 0, 6, 3, 4, 2, 0, 0], false),
     // a variable that is repeated with the same sign, one that is repeated with the other sign, and one that is out of range
     (&[1, 1, 0, 6, 3, 0, 0, 0, 6, 3, 4, 2, 0, 0], false),

@@ -75,8 +75,7 @@ fn answer(alloc: Global, cnf: &Cnf) -> Result<&'static str, AllocError> {
     Ok(whole)
 }
 
-/// `found` or `refuted`, depending on the outcome, if the check of assignments or of refutations confirms it, and otherwise
-/// `wrong`.
+/// `found` or `refuted`, as the outcome says, if a check confirms its assignment or its refutation; otherwise `wrong`.
 fn confirmed(alloc: Global, cnf: &Cnf, outcome: Outcome) -> Result<&'static str, AllocError> {
     match outcome {
         Outcome::Found(assignment) => {

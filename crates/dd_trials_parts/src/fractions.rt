@@ -52,7 +52,7 @@ type Pair = (i128, i128);
 
 /// The fraction with this numerator and denominator. There must be one.
 fn operand(rt: &impl Abort, pair: Pair) -> Fraction {
-    Fraction::new(pair.0, pair.1).expect(rt, "an operand is a fraction")
+    Fraction::new(pair.0, pair.1).expect(rt, "an operand isn't a fraction")
 }
 
 /// A call, its operands, and its result.

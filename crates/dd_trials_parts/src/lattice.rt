@@ -12,7 +12,7 @@ const BOXES: &[(u32, u32, usize, usize)] = &[(1, 2, 5, 7), (2, 1, 9, 25), (3, 1,
 fn boxes_and_their_growth(rt: HostRuntime) -> Result<(), Fail> {
     for (dim, radius, volume, grown) in BOXES {
         assert!(rt; 1 <= *dim && *dim <= 3);
-        let b = centred_box(*dim, *radius).ok_or("the radius is small")?;
+        let b = centred_box(*dim, *radius).ok_or("the radius is too large")?;
         let region = positions(rt.alloc(), &b)?;
         let larger = region.grow(rt.alloc(), *dim, 1)?;
         let sizes = (
@@ -27,7 +27,7 @@ fn boxes_and_their_growth(rt: HostRuntime) -> Result<(), Fail> {
 
 #[test]
 fn a_region_and_its_copy(rt: HostRuntime) -> Result<(), Fail> {
-    let b = centred_box(2, 1).ok_or("the radius is small")?;
+    let b = centred_box(2, 1).ok_or("the radius is too large")?;
     let step = Position { x: 2, y: 0, z: 0 };
     let region = positions(rt.alloc(), &b)?;
     let moved = region.shifted(rt.alloc(), &step)?;
@@ -47,7 +47,7 @@ const GROWN_EDGES: &[(u32, u32, Option<LatticeFault>)] = &[
 
 #[test]
 fn the_edge_of_the_range(rt: HostRuntime) -> Result<(), Fail> {
-    let edge = Position::new(1_048_576, 0, 0).ok_or("the edge is in range")?;
+    let edge = Position::new(1_048_576, 0, 0).ok_or("the edge is out of range")?;
     let region = positions(
         rt.alloc(),
         &Box3 {

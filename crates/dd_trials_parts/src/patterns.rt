@@ -44,7 +44,7 @@ fn symbols_of_periodic_configurations(rt: HostRuntime) -> Result<(), Fail> {
     for (dim, periods, shear, symbols, (x, y, z), symbol) in SYMBOLS {
         let symbols = Vec::from_slice(rt.alloc(), symbols)?;
         let periodic = Periodic::new(*dim, *periods, *shear, 1, symbols)?;
-        let cell = cell_at(*x, *y, *z).ok_or("the cell is in range")?;
+        let cell = cell_at(*x, *y, *z).ok_or("the cell is out of range")?;
         let written = (periodic.periods(), periodic.shear());
         let found = (periodic.symbol(&cell), periodic.symbol_at(&cell));
         let wanted = ((*periods, *shear), (Some(*symbol), *symbol));
@@ -153,7 +153,7 @@ const FILLED: &[(i32, i32, Option<u32>)] = &[
 fn fillings(rt: HostRuntime) -> Result<(), Fail> {
     let filling = three_filled(rt.alloc())?;
     for (x, y, symbol) in FILLED {
-        let cell = cell_at(*x, *y, 0).ok_or("the cell is in range")?;
+        let cell = cell_at(*x, *y, 0).ok_or("the cell is out of range")?;
         let found = filling.symbol(&cell);
         assert_eq!(rt; (*x, *y, found), (*x, *y, *symbol));
     }

@@ -7,7 +7,7 @@ use std::alloc::Global;
 use std::process::Abort;
 use std::test::Fail;
 
-/// An output that a check accepts. Its one answer is a YES, with the radius 0 of a box and a refutation of six clauses in one
+/// An output that a check accepts. Its one answer is a YES for the box of radius 0, with a refutation of six clauses in one
 /// step. The line of the step has the literals of its clause, then a 0, its hints, a 0, its deletes, and a 0. A hint is the
 /// number of a clause from which the step derives its clause, and a delete is the number of a clause that the step removes.
 pub(crate) const OUTPUT: &str =
@@ -19,8 +19,8 @@ const ANSWER: &str = "query 1 YES 0\nrefutation 1\nstep 0 6 3 4 2 0 0\n";
 // Each row of these tables alters the output, except for the first row of `ANSWERS`. A row has a part of the output that occurs
 // only once, the replacement for this part, the status with which the check ends, and what the check writes.
 
-// Texts with a wrong line, with a line too few or with a line too many. Each text is refused at an offset: the length of its
-// longest prefix that begins some output.
+// Texts with a wrong line, with one line too few or with one line too many. Each text is refused at an offset: the length of
+// its longest prefix that begins some output.
 const LINES: [(&str, &str, Status, &str); 16] = [
     ("diddy 1", "Diddy 1", Status::Refused, "refused at 0\n"),
     ("diddy 1", "diddy 2", Status::Refused, "refused at 6\n"),
@@ -202,7 +202,7 @@ const STEPS: [(&str, &str, Status, &str); 13] = [
         Status::Definite,
         "query 1 accepted\nchecked 1\n",
     ),
-    // Deletes of a clause that is already gone, of the step itself, and of a clause that doesn't exist.
+    // Deletes of a clause that is already gone, of the step's own clause, and of a clause that doesn't exist.
     ("2 0 0", "2 0 6 6 0", Status::Rejected, "query 1 rejected\n"),
     ("2 0 0", "2 0 7 0", Status::Rejected, "query 1 rejected\n"),
     ("2 0 0", "2 0 8 0", Status::Rejected, "query 1 rejected\n"),

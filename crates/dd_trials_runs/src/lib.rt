@@ -1,7 +1,7 @@
-//! Tests of whole sessions: how texts that aren't scripts are refused, which inputs a check accepts, rejects or refuses, and
-//! how a session ends after each fault of a source or a sink. Other tests show that engines don't change the first lines of
-//! answers, even if their proposals are wrong. No contract says that memory suffices for these sessions, how much is written
-//! before a sink fails, or which lists of clauses engines are asked about.
+//! Tests of whole sessions: how texts that aren't scripts are refused, what a check accepts, rejects or refuses, and how a
+//! session ends after each fault of a source or a sink. Other tests show that engines don't change the first lines of answers,
+//! even if their proposals are wrong. No contract says that memory suffices for these sessions, how much is written before a
+//! sink fails, or which lists of clauses engines are asked about.
 //!
 //! A session is one call of `run_diddy`, which runs a script, checks an output or answers a sample script. Its words, such as
 //! `run`, are those that follow the program's name. It reads its input from a source and writes to a sink. A run refuses an

@@ -126,7 +126,7 @@ const PAST_A_LIMIT: [(&[u8], &str); 16] = [
 ];
 
 #[test]
-fn refuses_what_is_no_script(rt: HostRuntime) -> Result<(), Fail> {
+fn refuses_what_is_not_a_script(rt: HostRuntime) -> Result<(), Fail> {
     let alloc = rt.alloc();
     assert_refused(&rt, alloc, &NOT_WELL_FORMED)?;
     assert_refused(&rt, alloc, &FAULTS_OF_NAMES)?;

@@ -1,5 +1,5 @@
 // Runs with rosters of engines. Most of these engines make wrong proposals. Unless memory runs out, the first lines of the
-// answers are the same over every roster. Engines that are found wrong are dropped.
+// answers are the same with every roster. Engines that are found wrong are dropped.
 use crate::engines::{Habit, Member, OF_PROGRAM, session_over};
 use crate::runs::{first_lines, run_over};
 use dd_outside::MemorySink;

@@ -34,10 +34,10 @@ fn a_long_input_is_refused(rt: HostRuntime) -> Result<(), Fail> {
 // A session in which no read and no write fails: its words, its input, its status, and what it writes.
 type Session = (&'static str, &'static str, Status, &'static str);
 
-// At most sixteen bytes are read or written at a time. Each row has a session, the number of its reads, and a list. The last
-// read finds the end of the input. The list has a number for each write: how many bytes the sink holds if this write fails. A
-// run writes the lines before the first answer together, then each answer separately, and then the line `end`. A check and a
-// sample write each line separately. If the input is refused, one line is written. A sample reads nothing.
+// At most sixteen bytes are read or written at a time. Each row has a session, the number of its reads, and a number for each
+// write: how many bytes the sink holds if this write fails. The last read finds the end of the input. A run writes the lines
+// before the first answer together, then each answer separately, and then the line `end`. A check and a sample write each line
+// separately. If the input is refused, one line is written. A sample reads nothing.
 const SESSIONS: [(Session, u64, &[usize]); 7] = [
     (
         (
