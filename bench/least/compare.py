@@ -20,7 +20,7 @@ from dimacs import written  # noqa: E402
 SOLVERS = [solver for solver in ("minisat", "cadical") if shutil.which(solver)]
 DOM = "%rule dom Ep[o1] p=1\n%least dom "
 SCRIPTS = {
-    **{f"dominating {n} by {n}": f"{DOM}[{n} {n}]\n" for n in range(5, 9)},
+    **{f"dominating {n} by {n}": f"{DOM}[{n} {n}]\n" for n in range(5, 10)},
     "Roman 5 by 5": "%alphabet 0 1 2\n%rule roman o=0 -> Ep[o1] p=2\n%least roman [5 5]\n",
     "identifying, hexagonal 3 by 3": "%topology hex\n%rule code Ep[o1] p=1 & Ap[o2] (p@o | Eq[o1p1] (q=1 & !((q@o | q~o) & (q@p | q~p))))\n"
     "%least code [3 3]\n",
